@@ -5,14 +5,14 @@ ghost use Rattle.command_words.specs.Status.{status_of};
 /// How a program ended.
 #[derive(Clone, Copy, Debug, PartialEq, Eq)]
 pub enum Ended {
-    /// Each register is atomic.
-    Atomic,
-    /// Some register isn't.
-    NotAtomic,
-    /// The search gave up on some register, and no register is known not to be atomic. A
-    /// program that always decides never ends so.
+    /// Of each register what was asked for holds: that it is atomic, or keeps a weaker level.
+    Yes,
+    /// Of some register it doesn't.
+    No,
+    /// The search gave up on some register, and no register is known to fail. A program that
+    /// always decides never ends so.
     Unknown,
-    /// There is no report; with the number of the refusal, 1 to 21.
+    /// There is no report; with the number of the refusal, 1 to 22.
     Refused(u8),
     /// The words of the command line were refused, or asked for help or the version.
     BadWords,
@@ -24,8 +24,8 @@ pub fn status(ended: Ended) -> u8
     ensures { result ≡ status_of ended }
 {
     match ended {
-        Ended::Atomic => 0,
-        Ended::NotAtomic => 1,
+        Ended::Yes => 0,
+        Ended::No => 1,
         Ended::Unknown => 6,
         Ended::Refused(number) if 16 <= number && number <= 18 => 4,
         Ended::Refused(_) => 2,

@@ -1,7 +1,7 @@
 //! What the programs share about their command lines: how words are read, what is said of those
 //! that are refused, and how a program ends.
 //!
-//! What the floor above may rely on: [`file`] and [`option`] make the arguments of the definitions.
+//! What the floor above may rely on: [`file`], [`option`] and [`flag`] make the arguments of the definitions.
 //! [`read`] reads words by a command, and what it finds is what the command's rules say of those words;
 //! [`file_in`] gives the file's name. [`status`] numbers the endings. [`words_given`], [`tell`] and their
 //! like talk to the system, and promise nothing.
@@ -17,7 +17,7 @@ mod given;
 mod reading;
 mod telling;
 
-pub use argument::{file, option};
+pub use argument::{file, flag, option, up_to};
 pub use ending::{Ended, status};
 pub use fault::WordsFault;
 pub use given::words_given;

@@ -12,9 +12,6 @@ use Rattle.level_text.specs.Text.{early_json, fault_json, first_parts, first_tot
 use Rattle.level_text.specs.Text.{last_totals, level_json, missed_json, pairs_json, register_json}
 use Rattle.level_text.specs.Text.{register_parts, second_parts, third_parts, totals_json, totals_parts}
 use Rattle.level_text.specs.Text.{fault_parts, went_back_json}
-use Rattle.level_text.specs.declared.report.LevelName.{LevelName}
-use Rattle.level_text.specs.declared.report.LevelName.TheVariants.{Atomic, Regular, Session}
-use Rattle.level_text.specs.declared.report.LevelName.TheVariants.{OwnWrites, Monotonic, Sequential}
 use Rattle.level_text.specs.declared.report.MissedWrite.{MissedWrite}
 use Rattle.level_text.specs.declared.report.WentBack.{WentBack}
 use Rattle.level_text.specs.declared.report.EarlyRead.{EarlyRead}
@@ -34,14 +31,6 @@ items_len-pairs (p ∷ ps) = let e = items_len-pairs ps in grind arith
 plain_pairs : (ps : List (ℕ × ℕ)) → has_float (pairs_json ps) ≡ false
 plain_pairs [] = refl
 plain_pairs (p ∷ ps) = plain_pairs ps
-
-plain_level : (level : LevelName) → has_float (level_json level) ≡ false
-plain_level Atomic = refl
-plain_level Regular = refl
-plain_level Session = refl
-plain_level OwnWrites = refl
-plain_level Monotonic = refl
-plain_level Sequential = refl
 
 plain_missed : (m : MissedWrite) → has_float (missed_json m) ≡ false
 plain_missed m = refl
@@ -106,7 +95,7 @@ plain_second reg = (
           order. plain_numbers order.lines.items),
       (
         plain_shown (codes "order_of") (λ (order : OrderLines). level_json order.level) reg.order (λ order.
-            plain_level order.level),
+            refl),
         (
           plain_shown (codes "own") number_json reg.freshness.own plain_number,
           (

@@ -6,9 +6,8 @@ use Rattle.std.specs.List.{concat}
 use Rattle.serde_json.specs.Data.{Data, string, array}
 use Rattle.json_fields.specs.Fields.{Field, always, shown, fields_of, items_of, number_json}
 use Rattle.json_fields.specs.Fields.{numbers_json, object_json, pair_json, yes_or_no, line_text}
+use Rattle.level_text.specs.Words.{word_of}
 use Rattle.level_text.specs.declared.report.LevelName.{LevelName}
-use Rattle.level_text.specs.declared.report.LevelName.TheVariants.{Atomic, Regular, Session}
-use Rattle.level_text.specs.declared.report.LevelName.TheVariants.{OwnWrites, Monotonic, Sequential}
 use Rattle.level_text.specs.declared.report.MissedWrite.{MissedWrite}
 use Rattle.level_text.specs.declared.report.WentBack.{WentBack}
 use Rattle.level_text.specs.declared.report.EarlyRead.{EarlyRead}
@@ -25,12 +24,7 @@ abbrev pub pairs_json : List (ℕ × ℕ) → Data
 pairs_json ps = array (items_of (map pair_json ps))
 
 abbrev pub level_json : LevelName → Data
-level_json Atomic = string (codes "atomic")
-level_json Regular = string (codes "regular")
-level_json Session = string (codes "session")
-level_json OwnWrites = string (codes "own_writes")
-level_json Monotonic = string (codes "monotonic")
-level_json Sequential = string (codes "sequential")
+level_json level = string (word_of level)
 
 abbrev pub missed_parts : MissedWrite → List (List Field)
 missed_parts m =

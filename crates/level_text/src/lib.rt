@@ -4,16 +4,18 @@
 //! for each register and one for the summary, keys in byte order. What a report has to say of a history is
 //! told by the floor above.
 //!
-//! Read it in this order: `report`, the values; `objects`, the values that are objects themselves, and how
-//! they are sent to a serializer; `send`, the lines, field by field as `json_fields` has it; `written`, the
-//! bytes.
+//! Read it in this order: `report`, the values; `level_name`, the words of levels; `objects`, the values that
+//! are objects themselves, and how they are sent to a serializer; `send`, the lines, field by field as
+//! `json_fields` has it; `written`, the bytes.
 #![tactic(auto)]
 
+mod level_name;
 mod objects;
 mod report;
 mod send;
 mod written;
 
+pub use level_name::UnknownLevel;
 pub use report::{
     CalledOperations, EarlyRead, FaultLines, Freshness, GapLines, KeptGuarantees, LevelName,
     LevelsReport, MissedWrite, OrderLines, RegisterLevels, Totals, WentBack,

@@ -11,23 +11,9 @@ use crate::objects::{
     send_number, show_early, show_fault, show_gap, show_missed, show_pairs, show_went_back,
     show_yes_or_no,
 };
-use crate::report::{LevelName, OrderLines, RegisterLevels, Totals};
+use crate::report::{OrderLines, RegisterLevels, Totals};
 use json_fields::{one_if, send_numbers, send_text, send_yes_or_no, show_number};
 use serde::{Described, Serialize, Serializer};
-
-fn send_level<S: Serializer>(out: &mut S, key: &str, level: LevelName) -> Result<(), S::Error>
-    ensures { OnOk result
-        (SendsFields (always key.now (level_json level)) (S.written out.old) (S.written out.new)) }
-{
-    match level {
-        LevelName::Atomic => send_text(out, key, "atomic"),
-        LevelName::Regular => send_text(out, key, "regular"),
-        LevelName::Session => send_text(out, key, "session"),
-        LevelName::OwnWrites => send_text(out, key, "own_writes"),
-        LevelName::Monotonic => send_text(out, key, "monotonic"),
-        LevelName::Sequential => send_text(out, key, "sequential"),
-    }
-}
 
 fn show_order<S: Serializer>(out: &mut S, order: &Option<OrderLines>) -> Result<(), S::Error>
     ensures { OnOk result
@@ -46,7 +32,7 @@ fn show_order_level<S: Serializer>(out: &mut S, order: &Option<OrderLines>) -> R
         (S.written out.old) (S.written out.new)) }
 {
     match order {
-        Some(order) => send_level(out, "order_of", order.level),
+        Some(order) => send_text(out, "order_of", order.level.word()),
         None => Ok(()),
     }
 }

@@ -4,10 +4,10 @@ use Rattle.clap.specs.Built.{IsParsedFrom}
 use Rattle.clap.specs.Words.{Text, app_of, found_of, matches_of, rows_of}
 use Rattle.clap.specs.declared.builder.command.Command.{Command}
 use Rattle.clap.specs.declared.parser.matches.ArgMatches.{ArgMatches}
-use Rattle.command_words.specs.Words.{number_named}
+use Rattle.command_words.specs.Words.{number_named, up_to}
 use Rattle.command_words.proofs.Numbers.{HasNumber, IsReady, number_found}
 use Rattle.reg_pieces.specs.declared.settings.TheConstants.{MAX_CUT, MAX_WORKERS}
-use Rattle.regcheck.specs.Words.{command_line, up_to}
+use Rattle.regcheck.specs.Words.{command_line}
 
 ready : IsReady command_line
 ready = record { top = refl; leaves = refl; simple = refl }

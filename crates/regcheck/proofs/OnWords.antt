@@ -3,8 +3,8 @@ use Rattle.std.proofs.Common.{◌≡◌, [], ◌∷◌, codes, length, refl, Non
 use Rattle.clap.specs.Words.{fault_of}
 use Rattle.clap.specs.declared.error.kind.ErrorKind.TheVariants.{DisplayHelp, DisplayVersion}
 use Rattle.clap.proofs.OnLiterals.{clap_on_literals}
-use Rattle.command_words.specs.Words.{IsTaken, file_named, number_named}
-use Rattle.regcheck.specs.Words.{command_line, first_given}
+use Rattle.command_words.specs.Words.{IsTaken, file_named, number_named, text_given}
+use Rattle.regcheck.specs.Words.{command_line}
 
 -- no word is standard input
 no_word : IsTaken command_line [] × (file_named command_line [] ≡ None)
@@ -41,13 +41,13 @@ defaults = (refl, refl)
 
 -- the flag is set where a word says so, and not set where none does
 flag : let words = codes "--first" ∷ codes "h.jsonl" ∷ [] in
-    IsTaken command_line words × (first_given words ≡ Some (codes "true"))
+    IsTaken command_line words × (text_given command_line (codes "first") words ≡ Some (codes "true"))
     × (file_named command_line words ≡ Some (codes "h.jsonl"))
-unfolding clap_on_literals IsTaken first_given file_named
+unfolding clap_on_literals IsTaken text_given file_named
 flag = (refl, refl, refl)
 
-no_flag : first_given (codes "h.jsonl" ∷ []) ≡ Some (codes "false")
-unfolding clap_on_literals first_given
+no_flag : text_given command_line (codes "first") (codes "h.jsonl" ∷ []) ≡ Some (codes "false")
+unfolding clap_on_literals text_given
 no_flag = refl
 
 -- the least numbers

@@ -24,8 +24,8 @@ fn report<S: Source>(
 {
     let mut sink = FromWriter::new(io::writer(rt));
     match run(rt, rt.alloc(), source, &mut sink, settings, &OpenGate) {
-        Ok(Outcome::Atomic) => Ended::Atomic,
-        Ok(Outcome::NotAtomic) => Ended::NotAtomic,
+        Ok(Outcome::Atomic) => Ended::Yes,
+        Ok(Outcome::NotAtomic) => Ended::No,
         Err(refusal) => tell(rt, &refusal, refusal.number()),
     }
 }

@@ -1,13 +1,13 @@
 //! The words of the command line.
-ghost use Rattle.std.specs.Prelude.{◌≡◌, ◌≤◌, codes, false, map, option_map, string_bytes, IfOk, IfErr, Some};
-ghost use Rattle.clap.specs.Words.{app_of, rule_of};
-ghost use Rattle.command_words.specs.Words.{file_named, number_named, IsFaultless, IsTaken};
+ghost use Rattle.std.specs.Prelude.{◌≡◌, ◌≤◌, codes, map, option_map, string_bytes, IfOk, IfErr, Some};
+ghost use Rattle.clap.specs.Words.{app_of};
+ghost use Rattle.command_words.specs.Words.{file_named, number_named, text_given};
+ghost use Rattle.command_words.specs.Words.{IsFaultless, IsFlag, IsTaken};
 ghost use Rattle.reg_pieces.specs.declared.settings.TheConstants.{MAX_CUT, MAX_WORKERS};
-ghost use Rattle.regcheck.specs.Words.{command_line, first_given, first_rule, up_to as is_up_to, IsFlag};
+ghost use Rattle.regcheck.specs.Words.{command_line};
 
-use clap::builder::ValueParser;
-use clap::{Arg, ArgAction, Command, value_parser};
-use command_words::{WordsFault, file, file_in, option, read};
+use clap::Command;
+use command_words::{WordsFault, file, file_in, flag, option, read, up_to};
 use reg_report::{MAX_CUT, MAX_WORKERS, Settings};
 use std::alloc::{AllocError, Global};
 
@@ -39,24 +39,6 @@ pub struct Words {
     pub settings: Settings,
 }
 
-/// A whole number from 1 to `most`.
-fn up_to<'a>(most: u32) -> ValueParser<'a>
-    ensures { result ≡ is_up_to most }
-{
-    value_parser!(u32).range(1..=i64::from(most))
-}
-
-/// The flag that asks for only the first register that isn't atomic.
-fn first<'a>(alloc: Global) -> Arg<'a>
-    ensures rule { rule_of result ≡ first_rule }
-    ensures local { result.global ≡ false }
-{
-    Arg::new(alloc, "first")
-        .long("first")
-        .action(ArgAction::SetTrue)
-        .help(FIRST)
-}
-
 fn command<'a>(alloc: Global) -> Result<Command<'a>, AllocError>
     ensures { IfOk result (λ command. app_of command ≡ command_line) }
 {
@@ -68,7 +50,7 @@ fn command<'a>(alloc: Global) -> Result<Command<'a>, AllocError>
         .arg(file(alloc))?
         .arg(option(alloc, "workers", up_to(MAX_WORKERS), "4").help(WORKERS))?
         .arg(option(alloc, "cut", up_to(MAX_CUT), "4096").help(CUT))?
-        .arg(first(alloc))
+        .arg(flag(alloc, "first").help(FIRST))
 }
 
 /// Reads the words after the program's name: one file at most, `--workers N`, `--cut N` and `--first`. If
@@ -86,7 +68,8 @@ pub fn read_words(alloc: Global, words: &[String]) -> Result<Words, WordsFault>
     ensures cut { IfOk result (λ read.
         Some read.settings.cut ≡ number_named command_line (codes "cut") (map string_bytes words.now)) }
     ensures first { IfOk result (λ read.
-        IsFlag (first_given (map string_bytes words.now)) read.settings.first) }
+        IsFlag (text_given command_line (codes "first")
+        (map string_bytes words.now)) read.settings.first) }
     ensures limits { IfOk result (λ read. (1 ≤ read.settings.workers) × (read.settings.workers ≤ MAX_WORKERS)
         × (1 ≤ read.settings.cut) × (read.settings.cut ≤ MAX_CUT)) }
     ensures faultless { IfOk result (λ _. IsFaultless command_line (map string_bytes words.now)) }

@@ -11,8 +11,8 @@ pub(crate) fn ending_of(outcome: Outcome) -> Ended
     ensures { status_of result ≡ status_for outcome }
 {
     match outcome {
-        Outcome::Yes => Ended::Atomic,
-        Outcome::No => Ended::NotAtomic,
+        Outcome::Yes => Ended::Yes,
+        Outcome::No => Ended::No,
         Outcome::Unknown => Ended::Unknown,
     }
 }

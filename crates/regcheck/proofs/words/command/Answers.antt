@@ -3,7 +3,7 @@ use Rattle.std.proofs.Common.{◌≡◌, ◌∙◌, ap₂, codes, rules}
 use Rattle.std.proofs.lemmas.Result.{IfOk-weaker}
 use Rattle.clap.specs.Words.{app_of, rule_of, with_rule}
 use Rattle.command_words.specs.Words.{file_rule, program}
-use Rattle.regcheck.specs.Words.{cut_rule, workers_rule}
+use Rattle.regcheck.specs.Words.{cut_rule, first_rule, workers_rule}
 use Rattle.regcheck.proofs.words.command.Goals as goal
 
 pub returns : goal.returns
@@ -19,5 +19,6 @@ returns c =
     let with_cut : app_of c.in_ok-arg-3.field-0
     ≡ with_rule (with_rule (with_rule named file_rule) workers_rule) cut_rule =
     c.in_ok-arg-3.ensures.shape (search rules) ∙ ap₂ with_rule with_workers cut_is in
-    IfOk-weaker c.arg-4.result _ _ (λ command added. added.shape c.first.ensures.local
-    ∙ ap₂ with_rule with_cut c.first.ensures.rule) c.arg-4.ensures
+    let first_is : rule_of c.help-3.result ≡ first_rule = search rules in
+    IfOk-weaker c.arg-4.result _ _ (λ command added. added.shape (search rules)
+    ∙ ap₂ with_rule with_cut first_is) c.arg-4.ensures

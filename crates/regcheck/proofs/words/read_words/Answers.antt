@@ -5,7 +5,8 @@ use Rattle.std.specs.Prelude.{IfSome}
 use Rattle.reg_pieces.specs.Settings.{SettingsShown}
 use Rattle.command_words.proofs.Found.{file_found, text_named}
 use Rattle.command_words.proofs.Numbers.{signed_is, signed_is_some}
-use Rattle.regcheck.specs.Words.{command_line, first_given}
+use Rattle.command_words.specs.Words.{text_given}
+use Rattle.regcheck.specs.Words.{command_line}
 use Rattle.regcheck.proofs.Numbers.{cut_found, workers_found}
 use Rattle.regcheck.proofs.words.read_words.Goals as goal
 
@@ -66,7 +67,7 @@ returns-clause-cut c =
     ap (λ (s : SettingsShown). Some s.cut) (settings_are _ _ _ c.new.ensures.some c.unwrap.ensures) ∙ cut.0
 
 pub returns-clause-first : goal.returns-clause-first
-unfolding first_given
+unfolding text_given
 returns-clause-first c =
     let read = c.in_ok-matches.ensures in
     let words = map string_bytes c.args.words.now in

@@ -1,0 +1,46 @@
+//! Levels and their words.
+ghost use Rattle.std.specs.Prelude.{◌≡◌};
+ghost use Rattle.level_text.specs.Words.{word_of, IsLevelRead};
+
+use crate::report::LevelName;
+use std::str::FromStr;
+use thiserror::Error;
+
+impl LevelName {
+    /// The word for it, in reports and on the command line.
+    pub fn word(self) -> &'static str
+        ensures { result.now ≡ word_of self }
+    {
+        match self {
+            LevelName::Atomic => "atomic",
+            LevelName::Regular => "regular",
+            LevelName::Session => "session",
+            LevelName::OwnWrites => "own_writes",
+            LevelName::Monotonic => "monotonic",
+            LevelName::Sequential => "sequential",
+        }
+    }
+}
+
+/// The word is that of no level.
+#[derive(Clone, Copy, Debug, PartialEq, Eq, Error)]
+#[error("no level has this name")]
+pub struct UnknownLevel;
+
+impl FromStr for LevelName {
+    type Err = UnknownLevel;
+
+    ghost from_str_gives = { IsLevelRead };
+
+    fn from_str(word: &str) -> Result<LevelName, UnknownLevel> {
+        match word {
+            "atomic" => Ok(LevelName::Atomic),
+            "regular" => Ok(LevelName::Regular),
+            "session" => Ok(LevelName::Session),
+            "own_writes" => Ok(LevelName::OwnWrites),
+            "monotonic" => Ok(LevelName::Monotonic),
+            "sequential" => Ok(LevelName::Sequential),
+            _ => Err(UnknownLevel),
+        }
+    }
+}
