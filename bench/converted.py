@@ -1,7 +1,7 @@
-"""The lines that a conversion makes of appends, of puts by version and of increments, as `regkit convert` does.
+"""The lines that `regkit convert` makes of appends, of puts by version and of increments.
 
-It knows the whole history, so it knows which value each operation met. An append that no read shows is a write
-of a value that nobody asks for. What has no reply is left out if nobody saw what it would have made."""
+It knows the whole history, so it knows which value each operation met. An append that no read shows is a
+write of a value that nobody asks for. What has no reply is left out if nobody saw what it would have made."""
 from typing import Callable, Dict, Iterator, List, NamedTuple, Optional, Protocol, Set, Tuple
 
 from mixes import Value, shown
