@@ -199,15 +199,15 @@ class Shown(unittest.TestCase):
             self.assertIn(part, str(caught.exception))
 
     def test_pending_operations_in_an_order(self) -> None:
-        """They stand there by choice. A pending read may be given any value, and a pending write gives its."""
+        """They stand there by choice. A pending read may be given any value, a pending write gives its own."""
         history = text(write(1, 1), reply(1), read(2), write(3, 2), read(1), gave(1, 1))
         levels = dict.fromkeys(("atomic", "regular", "session", "sequential"), "yes")
         counts = dict.fromkeys(("stale", "own", "back", "inverted", "lost"), 0)
         row: Dict[str, Any] = {**levels, **counts, "register": "x", "pending": 2, "reads": 2, "writes": 2}
         summary = {key: row[key] for key in row if key not in ("register", "pending", "writes")}
         summary.update(operations=4, registers=1)
-        table = [([1, 5], True), ([1, 5, 3], True), ([1, 3, 5], True), ([1, 3, 5, 4], True), ([1, 4, 5], False),
-                 ([3, 1, 5], False)]
+        table = [([1, 5], True), ([1, 5, 3], True), ([1, 3, 5], True), ([1, 3, 5, 4], True),
+                 ([1, 4, 5], False), ([3, 1, 5], False)]
         for order, holds in table:
             rows = ({**row, "order": order, "order_of": "atomic"}, summary)
             report = "".join(json.dumps(each) + "\n" for each in rows).encode()
