@@ -14,6 +14,7 @@ from regkit.checker.programs import LEVEL, find_program
 from regkit.history.operations import read_history
 from regkit.levels.account import groups, heading
 from regkit.levels.ages import Age, ages_in_words, gap_in_words
+from regkit.levels.counts import counts
 from regkit.levels.guesses import guess
 from regkit.levels.shares import shares_in_words
 from regkit.levels.subject import Places, Subject
@@ -336,6 +337,22 @@ class Shares(unittest.TestCase):
                          ["stale reads: client c1 2 of 2, client c0 0 of 1, client c2 0 of 3"])
         self.assertEqual(shares_in_words(self.subject(1)), [])
         self.assertTrue(shares_in_words(self.subject(9))[0].endswith("client c5 0 of 6, and 3 more"))
+
+
+class Firsts(unittest.TestCase):
+    def test_the_first_of_all_registers(self) -> None:
+        """It needn't be of the first register."""
+        events = [write(1, 1, "a"), reply(1), write(1, 1, "b"), reply(1), read(2, "b"), gave(2, None),
+                  read(2, "a"), gave(2, None)]
+        rows: List[Dict[str, Any]] = [
+            {"register": name, "stale": 1, "stale_read": {"newer": newer, "read": place, "seen": 0},
+             "lost_write": newer, "stale_reads": [[place, newer]]}
+            for name, newer, place in (("a", 1, 7), ("b", 3, 5))]
+        numbers = {"stale": 2, "own": 0, "back": 0, "inverted": 0, "reads": 2}
+        for ordered in (rows, rows[::-1]):
+            said = "\n".join(counts(subject_of(events, *ordered, lost=2, **numbers)))
+            self.assertIn('the first of register "b": the read of null by process 2 (lines 5 to 6)', said)
+            self.assertIn('the first of register "a": the write of 1 by process 1 (lines 1 to 2)', said)
 
 
 class Guesses(unittest.TestCase):

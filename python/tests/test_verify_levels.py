@@ -9,6 +9,8 @@ from regkit import verify
 from regkit.checker.programs import LEVEL, find_program, run_levels
 from regkit.verify.clusters import check_kept
 from regkit.verify.guarantees import GUARANTEES, Guarantee, Places, check_order, within
+from regkit.verify.levels import first_unclean
+from regkit.verify.old_reads import find_old
 from regkit.verify.operations import Operation, initial_write, read_history
 from regkit.verify.register import Register
 
@@ -195,6 +197,25 @@ class Shown(unittest.TestCase):
             with self.subTest(order), self.assertRaises(verify.Wrong) as caught:
                 self.told("order", order)
             self.assertIn(part, str(caught.exception))
+
+    def test_pending_operations_in_an_order(self) -> None:
+        """They stand there by choice. A pending read may be given any value; a pending write gives its own."""
+        history = text(write(1, 1), reply(1), read(2), write(3, 2), read(1), gave(1, 1))
+        levels = dict.fromkeys(("atomic", "regular", "session", "sequential"), "yes")
+        counts = dict.fromkeys(("stale", "own", "back", "inverted", "lost"), 0)
+        row: Dict[str, Any] = {**levels, **counts, "register": "x", "pending": 2, "reads": 2, "writes": 2}
+        summary = {key: row[key] for key in row if key not in ("register", "pending", "writes")}
+        summary.update(operations=4, registers=1)
+        table = [([1, 5], True), ([1, 5, 3], True), ([1, 3, 5], True), ([1, 3, 5, 4], True),
+                 ([1, 4, 5], False), ([3, 1, 5], False)]
+        for order, holds in table:
+            rows = ({**row, "order": order, "order_of": "atomic"}, summary)
+            report = "".join(json.dumps(each) + "\n" for each in rows).encode()
+            with self.subTest(order):
+                if holds:
+                    self.assertTrue(verify.verify(history, report).atomic)
+                else:
+                    self.assertRaises(verify.Wrong, verify.verify, history, report)
 
     def test_the_level_of_an_order(self) -> None:
         row, summary = map(json.loads, report_of("order_against_time").splitlines())
@@ -394,6 +415,59 @@ class ByAllOrders(unittest.TestCase):
                         except verify.Wrong:
                             self.assertFalse(due, (seed, level, order))
         self.assertEqual(len(seen), 2 * len(GUARANTEES))
+
+
+def old_by_definition(operations: List[Operation]) -> Dict[str, List[int]]:
+    """The old reads and the lost writes of a clean register, by their lines, looking at every pair."""
+    everything = [initial_write("x"), *operations]
+    reads = [a for a in operations if a.completed and not a.is_write]
+    since = {w.value: min(a.end for a in everything if a.value == w.value and (a.is_write or a.completed))
+             for w in everything if w.is_write}
+    source = {w.value: w for w in everything if w.is_write}
+
+    def old(having: List[Operation], in_session: bool) -> List[int]:
+        def comes_earlier(a: Operation, r: Operation) -> bool:
+            return a.process == r.process and a.line < r.line if in_session else a.end < r.line
+
+        return [r.line for r in reads if any(comes_earlier(a, r) and since[r.value] < source[a.value].line
+                                             for a in having)]
+
+    writes = [w for w in everything if w.is_write]
+    after = {w.line: [r for r in reads if w.end < r.line] for w in writes}
+    lost = [w.line for w in writes if after[w.line] and all(since[r.value] < w.line for r in after[w.line])]
+    return {"stale": old(writes, False), "own": old(writes, True), "back": old(reads, True),
+            "inverted": old(reads, False), "lost": lost}
+
+
+class OldReads(unittest.TestCase):
+    def test_by_every_pair(self) -> None:
+        seen: Dict[str, int] = {}
+        for seed in range(300):
+            history = read_history(text(*random_history(seed, 40)), True)
+            for name, operations in history.registers.items():
+                register = Register(name, operations)
+                if first_unclean(register) != (None, None):
+                    continue
+                found = find_old(register)
+                due = old_by_definition(operations)
+                for kind in ("stale", "own", "back", "inverted"):
+                    self.assertEqual([old.read.line for old in getattr(found, kind)], due[kind], (seed, kind))
+                    seen[kind] = seen.get(kind, 0) + len(due[kind])
+                self.assertEqual([write.line for write in found.lost], due["lost"], seed)
+                seen["lost"] = seen.get("lost", 0) + len(due["lost"])
+        self.assertTrue(all(count > 20 for count in seen.values()), seen)
+
+    def test_what_is_named(self) -> None:
+        """Of newer writes and reads that precede, the first to end; of those of the session, the newest."""
+        history = read_history(text(
+            write(1, 1), reply(1), write(1, 2), write(2, 3), reply(2), reply(1),  # 3 ended before 2
+            read(4), gave(4, 2), read(3), gave(3, 3), read(4), gave(4, 3), read(4), gave(4, 1), read(4),
+            gave(4, 1)), True)
+        found = find_old(Register("x", history.registers["x"]))
+        named = {kind: [(old.read.line, old.newer.line, old.earlier.line) for old in getattr(found, kind)]
+                 for kind in ("stale", "own", "back", "inverted")}
+        self.assertEqual(named, {"stale": [(13, 4, 4), (15, 4, 4)], "own": [],
+                                 "back": [(13, 4, 11), (15, 4, 11)], "inverted": [(13, 3, 7), (15, 3, 7)]})
 
 
 @unittest.skipUnless(find_program(LEVEL), "reglevel isn't built")

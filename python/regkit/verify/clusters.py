@@ -89,10 +89,9 @@ def session_edges(register: Register, clusters: list[Cluster],
         if b.line not in number:
             continue
         own = number[b.line]
-        counts = (guarantee.own_writes, guarantee.own_reads)
-        for is_write, asked in zip((True, False), (True, True) if b.is_write else counts):
+        for is_write in (True, False):
             before = last.get((b.process, is_write), own)
-            if asked and before != own:
+            if guarantee.keeps_own(is_write) and before != own:
                 yield before, own
         last[b.process, b.is_write] = own
 

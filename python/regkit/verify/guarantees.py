@@ -15,16 +15,18 @@ Places = dict[int, int]  # of the lines, among the events; 0 is before all
 
 
 class Guarantee(NamedTuple):
-    """Which operations have to come before one that they precede.
-
-    Before a write: all, or those of its session. Before a read: all that ended at least `age` events before
-    it began, and the writes and the reads of its session."""
+    """Which operations have to come before one that they precede: all before a write, all that ended at least
+    `age` events before a read began, and the writes and the reads of its session before either."""
 
     all_before_writes: bool = True  # writes keep real time
     all_before_reads: bool = False
     own_writes: bool = False
     own_reads: bool = False
     age: int = 0
+
+    def keeps_own(self, is_write: bool) -> bool:
+        """Whether the writes, or the reads, of a session come before what follows them in it."""
+        return self.own_writes if is_write else self.own_reads
 
 
 GUARANTEES = {
@@ -51,11 +53,11 @@ def is_before_in_session(a: Operation, b: Operation) -> bool:
 def must_come_before(guarantee: Guarantee, a: Operation, b: Operation, places: Places) -> bool:
     if not a.end < b.line:
         return False
-    if b.is_write:
-        return guarantee.all_before_writes or is_before_in_session(a, b)
-    if guarantee.all_before_reads and places[b.line] - places[int(a.end)] >= guarantee.age:
+    if b.is_write and guarantee.all_before_writes:
         return True
-    return is_before_in_session(a, b) and (guarantee.own_writes if a.is_write else guarantee.own_reads)
+    if not b.is_write and guarantee.all_before_reads:
+        return places[b.line] - places[int(a.end)] >= guarantee.age
+    return is_before_in_session(a, b) and guarantee.keeps_own(a.is_write)
 
 
 # ---- A yes: an order
@@ -63,11 +65,10 @@ def must_come_before(guarantee: Guarantee, a: Operation, b: Operation, places: P
 
 def groups_before(guarantee: Guarantee, b: Operation) -> list[Hashable]:
     """The groups of operations, by `groups_of`, that have to come before b where they precede it."""
-    everything = guarantee.all_before_writes if b.is_write else guarantee.all_before_reads
-    if everything:
+    if guarantee.all_before_writes if b.is_write else guarantee.all_before_reads:
         return ["all"]
-    own = (True, True) if b.is_write else (guarantee.own_writes, guarantee.own_reads)
-    return [(b.process, is_write) for is_write, counts in zip((True, False), own) if counts]
+    own = [is_write for is_write in (True, False) if guarantee.keeps_own(is_write)]
+    return [(b.process, is_write) for is_write in own]
 
 
 def check_order(register: Register, order: Lines, guarantee: Guarantee, places: Places) -> None:

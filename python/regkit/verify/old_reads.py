@@ -85,7 +85,8 @@ def followed(register: Register, by_writes: bool, source: Source, since: Since) 
 
 
 def lost_writes(register: Register, since: Since) -> list[Operation]:
-    """The completed writes that some completed read follows, and of which all these gave older values."""
+    """The writes that some completed read follows, and of which all these gave older values. Nothing follows
+    a pending one."""
     reads = register.completed_reads
     calls = [read.line for read in reads]
     latest = [since[read.value] for read in reads]  # of the reads from each place on, the newest value's
@@ -94,6 +95,6 @@ def lost_writes(register: Register, since: Since) -> list[Operation]:
     lost = []
     for write in register.writes:
         place = bisect_right(calls, write.end)
-        if write.completed and place < len(reads) and latest[place] < write.line:
+        if place < len(reads) and latest[place] < write.line:
             lost.append(write)
     return lost
