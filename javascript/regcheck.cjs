@@ -291,11 +291,11 @@ class Recorder {
   }
 
   /**
-   * Throws unless each register of the history keeps the level, a read was completed, and the recorder was used
-   * rightly. The level is "atomic", "regular", "session", "own_writes", "monotonic" or "sequential". It says why
-   * in the words of `regkit levels`, and leaves the history, the report of reglevel and a page as
-   * assertLinearizable does. The page shows why the history isn't linearizable. checkLevel says which histories
-   * have an answer.
+   * Throws unless each register of the history keeps the level, a read was completed, and the recorder was
+   * used rightly. The level is "atomic", "regular", "session", "own_writes", "monotonic" or "sequential". It
+   * says why in the words of `regkit levels`, and leaves the history, the report of reglevel and a page as
+   * assertLinearizable does. The page shows why the history isn't linearizable. checkLevel says which
+   * histories have an answer.
    */
   assertLevel(test, level) {
     assertHolds(this, test, levelKept(level));
@@ -391,12 +391,14 @@ function check(history, bounds = {}) {
 }
 
 /**
- * Whether each register of a history keeps a level, `kept`, and the report. It runs reglevel, which takes reads
- * and writes, each value written once to a register. Throws NotChecked, in the words of the program, if there is
- * no answer, and RangeError if there is no such level.
+ * Whether each register of a history keeps a level, `kept`, and the report. It runs reglevel, which takes
+ * reads and writes, each value written once to a register. Throws NotChecked, in the words of the program, if
+ * there is no answer, and RangeError if there is no such level.
  */
 function checkLevel(history, level) {
-  if (!LEVELS.includes(level)) throw new RangeError(`"${level}" is no level: it is one of ${LEVELS.join(", ")}`);
+  if (!LEVELS.includes(level)) {
+    throw new RangeError(`"${level}" is no level: it is one of ${LEVELS.join(", ")}`);
+  }
   const program = mustFind("REGLEVEL", "reglevel");
   const { status, output, words } = run(program, ["--stale", "--require", level], history);
   if (status === ATOMIC || status === NOT_ATOMIC) return { level, kept: status === ATOMIC, report: output };
@@ -449,7 +451,8 @@ const levelKept = (level) => ({
   what: `keeps ${level}`,
   Failed: NotKept,
   explain(files, checked, history) {
-    return explain(files, lacking(checked), () => levelExplained(files, level), "-", () => check(history).report);
+    return explain(
+      files, lacking(checked), () => levelExplained(files, level), "-", () => check(history).report);
   },
 });
 
@@ -533,8 +536,8 @@ function levelWords(history, answer) {
 }
 
 /**
- * The words, and where the files are, of a test that fails; it draws the page too, by a report that is given if
- * it isn't in a file. What is short stands in the place of words that there are none of.
+ * The words, and where the files are, of a test that fails; it draws the page too, by a report that is given
+ * if it isn't in a file. What is short stands in the place of words that there are none of.
  */
 function explain(files, short, say, report, given = () => "") {
   const kept = `history: ${files.history}\nreport: ${files.report}`;
@@ -573,4 +576,6 @@ function reported({ verdict, report }) {
 }
 
 module.exports = {
-  Recorder, Client, Mistake, NoEffect, NotLinearizable, NotKept, NotChecked, check, words, checkLevel, levelWords };
+  Recorder, Client, Mistake, NoEffect, NotLinearizable, NotKept, NotChecked,
+  check, words, checkLevel, levelWords,
+};

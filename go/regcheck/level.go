@@ -7,14 +7,14 @@ import (
 	"strings"
 )
 
-// A Level is a guarantee that a store may give of each of its keys. docs/levels.md explains them. A session is
-// a client of a recorder until one of its calls stays pending.
+// A Level is a guarantee that a store may give of each of its keys. docs/levels.md explains them. A session
+// is a client of a recorder until one of its calls stays pending.
 type Level string
 
 const (
 	Atomic     Level = "atomic"     // linearizable: each read gives the latest write
 	Regular    Level = "regular"    // no read misses a newer write that had ended before it began
-	Session    Level = "session"    // writes in the order of time; each session sees its own operations in order
+	Session    Level = "session"    // writes in the order of time; each session's operations in its own order
 	OwnWrites  Level = "own_writes" // writes in the order of time; no session misses a write of its own
 	Monotonic  Level = "monotonic"  // writes in the order of time; no session goes back to an older value
 	Sequential Level = "sequential" // each session in order; all agree on one order of the writes
@@ -31,8 +31,9 @@ type LevelAnswer struct {
 }
 
 // CheckLevel says whether each register of a history in the form of the programs keeps a level. It runs the
-// program reglevel, also where the library is linked: the one that REGLEVEL names, the one beside regcheck, or
-// the one on PATH. reglevel takes what regcheck takes: reads and writes, each value written once to a register.
+// program reglevel, also where the library is linked: the one that REGLEVEL names, the one beside regcheck,
+// or the one on PATH. reglevel takes what regcheck takes: reads and writes, each value written once to a
+// register.
 //
 // The error says why there is no answer: it may be a *Refusal.
 func CheckLevel(history []byte, level Level) (LevelAnswer, error) {
@@ -50,7 +51,8 @@ func CheckLevel(history []byte, level Level) (LevelAnswer, error) {
 		answer.Kept, answer.Report = said.status == statusAtomic, said.output
 		return answer, nil
 	case statusRefused:
-		return answer, fmt.Errorf("%w; reglevel takes reads and writes of distinct values", refusalOf(said.complaint))
+		refusal := refusalOf(said.complaint)
+		return answer, fmt.Errorf("%w; reglevel takes reads and writes of distinct values", refusal)
 	}
 	return answer, said.failure(answer.program)
 }
@@ -85,8 +87,8 @@ func RecordLevel(test TB, level Level) *Recorder {
 	return recorder
 }
 
-// AssertLevel fails the test unless each register of the history keeps the level, a read was completed, and the
-// recorder was used rightly. It says whether the test may go on.
+// AssertLevel fails the test unless each register of the history keeps the level, a read was completed, and
+// the recorder was used rightly. It says whether the test may go on.
 //
 // It says why in the words of `regkit levels`, and leaves the history, the report of reglevel and a page in
 // Folder, as Assert does. The page shows why the history isn't linearizable. CheckLevel says which histories
@@ -122,8 +124,8 @@ func (files files) levels(answer LevelAnswer) (string, error) {
 	if err != nil {
 		return "", err
 	}
-	found := []string{"REGLEVEL=" + answer.program}
-	said, err := runIn(found, path, nil, "levels", "--color", "never", "--require", string(answer.Level), files.history)
+	words := []string{"levels", "--color", "never", "--require", string(answer.Level), files.history}
+	said, err := runIn([]string{"REGLEVEL=" + answer.program}, path, nil, words...)
 	if err != nil {
 		return "", err
 	}

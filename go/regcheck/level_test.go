@@ -1,3 +1,5 @@
+//go:build !cgo || regcheck_program
+
 package regcheck_test
 
 import (
@@ -37,7 +39,7 @@ func goesBack(t *testing.T) *regcheck.Recorder {
 	return recorder
 }
 
-// Each level runs the program, also where the library is linked.
+// The same code runs where the library is linked; its tests find no program.
 func TestLevels(t *testing.T) {
 	recorder := goesBack(t)
 	if said := leveled(recorder, regcheck.OwnWrites); said != "" {

@@ -167,15 +167,15 @@ public final class Recorder {
     }
 
     /**
-     * What an answer says of a history: what the history does if that holds, why it doesn't, from the kept files,
-     * and what throws these words.
+     * What an answer says of a history: what the history does if that holds, why it doesn't, from the kept
+     * files, and what throws these words.
      */
     private record Finding(
             boolean holds, byte[] report, String what, Function<Kept, String> why, Consumer<String> fail) {
         static Finding of(Answer answer) {
             return new Finding(answer.verdict() == Verdict.YES, answer.report(), "is linearizable",
-                    kept -> kept.explain(
-                            Kept.shown(answer), () -> kept.told(answer.bounds()), kept.report(), () -> new byte[0]),
+                    kept -> kept.explain(Kept.shown(answer), () -> kept.told(answer.bounds()), kept.report(),
+                            () -> new byte[0]),
                     words -> {
                         if (answer.verdict() == Verdict.UNKNOWN) {
                             throw new NotChecked(
@@ -237,8 +237,8 @@ public final class Recorder {
     }
 
     /**
-     * A guarantee that a store may give of each of its keys. docs/levels.md explains them. A session is a client
-     * of a recorder until one of its calls stays pending.
+     * A guarantee that a store may give of each of its keys. docs/levels.md explains them. A session is a
+     * client of a recorder until one of its calls stays pending.
      */
     public enum Level {
         /** Linearizable: each read gives the latest write. */
@@ -261,13 +261,13 @@ public final class Recorder {
     }
 
     /**
-     * Whether each register of a history keeps a level, the report of reglevel, and the path of the reglevel that
-     * answered.
+     * Whether each register of a history keeps a level, the report of reglevel, and the path of the reglevel
+     * that answered.
      */
     public record LevelAnswer(Level level, boolean kept, byte[] report, String program) {
         /**
-         * Why the history doesn't keep the level, as {@code regkit levels} says it; if it does, nothing. Throws
-         * NotChecked if there are no words.
+         * Why the history doesn't keep the level, as {@code regkit levels} says it; if it does, nothing.
+         * Throws NotChecked if there are no words.
          */
         public String words(byte[] history) {
             return kept ? "" : Kept.inFolder(history, files -> files.levels(this));
@@ -275,9 +275,9 @@ public final class Recorder {
     }
 
     /**
-     * Says whether each register of a history keeps a level. It runs reglevel, which takes what regcheck takes:
-     * reads and writes, each value written once to a register. Throws NotChecked, in the words of the program, if
-     * there is no answer.
+     * Says whether each register of a history keeps a level. It runs reglevel, which takes what regcheck
+     * takes: reads and writes, each value written once to a register. Throws NotChecked, in the words of the
+     * program, if there is no answer.
      */
     public static LevelAnswer checkLevel(byte[] history, Level level) {
         String program = Programs.reglevel();
@@ -774,7 +774,7 @@ public final class Recorder {
             return new String(told.output(), StandardCharsets.UTF_8).stripTrailing();
         }
 
-        /** Why the kept history doesn't keep the level, in the words of regkit, by the reglevel that answered. */
+        /** Why the kept history doesn't keep the level, in the words of regkit, by the same reglevel. */
         String levels(LevelAnswer answer) {
             List<String> command = List.of(Programs.regkit(), "levels", "--color", "never", "--require",
                     answer.level().key(), history());
@@ -812,8 +812,8 @@ public final class Recorder {
         }
 
         /**
-         * The words, and where the files are; it has the page drawn too, by a report that is given if it isn't in
-         * a file. What is short stands in the place of words that there are none of.
+         * The words, and where the files are; it has the page drawn too, by a report that is given if it isn't
+         * in a file. What is brief stands in the place of words that there are none of.
          */
         String explain(String brief, Supplier<String> say, String report, Supplier<byte[]> given) {
             String kept = "history: " + history() + "\nreport: " + report();
@@ -839,8 +839,9 @@ public final class Recorder {
         /** The lines of the report whose registers lack the level. */
         static String lacking(LevelAnswer answer) {
             String level = answer.level().key();
+            String no = "\"" + level + "\":\"no\"";
             Stream<String> lines = new String(answer.report(), StandardCharsets.UTF_8).lines()
-                    .filter(line -> line.contains("\"register\":") && line.contains("\"" + level + "\":\"no\""))
+                    .filter(line -> line.contains("\"register\":") && line.contains(no))
                     .map(line -> "  " + line);
             return Stream.concat(Stream.of("doesn't keep " + level), lines).collect(Collectors.joining("\n"));
         }

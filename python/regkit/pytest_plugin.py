@@ -43,8 +43,8 @@ def pytest_addoption(parser: Any) -> None:
 
 
 def pytest_configure(config: Any) -> None:
-    config.addinivalue_line("markers", f"{MARKER}(level): the history of {FIXTURE} has to keep this level, in "
-                                       f"place of being linearizable: {', '.join(LEVELS)}")
+    config.addinivalue_line("markers", f"{MARKER}(level): the history of {FIXTURE} has to keep this level, "
+                                       f"in place of being linearizable: {', '.join(LEVELS)}")
 
 
 @fixture

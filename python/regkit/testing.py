@@ -35,7 +35,7 @@ class NotKept(AssertionError):
 
 
 class TooLittleEvidence(AssertionError):
-    """The history is as it should be, but too few reads were completed, or overlapped a write, to say much."""
+    """The history is as it should be, but too few reads were completed, or overlapped a write."""
 
 
 class NotChecked(Exception):
@@ -70,10 +70,10 @@ def assert_level(history: Recorded, level: str, *, least_reads: int = 1, least_o
     """Raises AssertionError, in the words of `regkit levels`, unless each register of the history keeps a
     level, with enough evidence.
 
-    The level is one of atomic, regular, session, own_writes, monotonic and sequential; docs/levels.md explains
-    them. The history, the evidence and the mistakes are as in `assert_atomic`. reglevel decides, which takes
-    the histories that regcheck takes. Raises NotChecked if it gives no answer, and NoChecker if it isn't
-    there."""
+    The level is one of atomic, regular, session, own_writes, monotonic and sequential, which docs/levels.md
+    explains. The history, the evidence and the mistakes are as in `assert_atomic`. reglevel decides, which
+    takes the histories that regcheck takes. Raises NotChecked if it gives no answer, and NoChecker if it
+    isn't there."""
     __tracebackhide__ = True
     if level not in LEVELS:
         raise ValueError(f"{level!r} is no level: it is one of {', '.join(LEVELS)}")
@@ -97,8 +97,8 @@ def explanation(history: bytes, report: bytes, options: Sequence[str] = ()) -> s
 
 
 def verdict(recorder: Recorder, level: Optional[str] = None) -> str:
-    """What there is to say of a test's history, whatever it is: of the level that the test asked for, if there
-    is one."""
+    """What there is to say of a test's history, whatever it is: of the level that the test asked for, if it
+    asked for one."""
     if recorder.mistakes:
         return f"the recorder was used wrongly: {recorder.mistakes[0]}"
     data = recorder.history()

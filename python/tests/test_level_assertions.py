@@ -1,4 +1,4 @@
-"""What a test learns of the level that its history keeps. A script gives the report in the place of reglevel."""
+"""What a test learns of the level that its history keeps. A script stands in the place of reglevel."""
 import importlib.util
 import os
 import tempfile

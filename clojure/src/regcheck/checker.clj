@@ -27,8 +27,8 @@
              [what (.getCanonicalPath (store/path! test (:subdirectory check-opts) name))])))
 
 (defn- in-words
-  "What regkit says of a fault, of a search that gave up, or of a level that isn't kept. tell runs it, and draw
-  has the page drawn. Without regkit, why there are no words."
+  "What regkit says of a fault, of a search that gave up, or of a level that isn't kept. tell runs it, and
+  draw has the page drawn. Without regkit, why there are no words."
   [{:keys [words page]} tell draw]
   (try (let [told (tell)
              drawn (draw)]

@@ -110,7 +110,8 @@
   (when (some? level)
     (let [word (str/replace (name level) "-" "_")]
       (when-not (levels word)
-        (throw (IllegalArgumentException. (str level " is no level: it is one of " (str/join ", " (sort levels))))))
+        (throw (IllegalArgumentException.
+                (str level " is no level: it is one of " (str/join ", " (sort levels))))))
       word)))
 
 (defn keeps

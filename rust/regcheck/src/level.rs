@@ -49,8 +49,8 @@ pub struct LevelAnswer {
 }
 
 impl LevelAnswer {
-    /// Why the history doesn't keep the level, as `regkit levels` says it; if it does, nothing. The history is
-    /// the one that the answer was given to.
+    /// Why the history doesn't keep the level, as `regkit levels` says it; if it does, nothing. The history
+    /// is the one that the answer was given to.
     ///
     /// # Errors
     /// Why there are no words.
@@ -62,9 +62,9 @@ impl LevelAnswer {
     }
 }
 
-/// Says whether each register of a history keeps a level. It runs the program reglevel, also where the library
-/// is linked: the one that `REGLEVEL` names, the one beside regcheck, or the one on `PATH`. reglevel takes what
-/// regcheck takes: reads and writes, each value written once to a register.
+/// Says whether each register of a history keeps a level. It runs the program reglevel, also where the
+/// library is linked: the one that `REGLEVEL` names, the one beside regcheck, or the one on `PATH`. reglevel
+/// takes what regcheck takes: reads and writes, each value written once to a register.
 ///
 /// # Errors
 /// Why there is no answer.

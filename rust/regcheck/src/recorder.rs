@@ -178,10 +178,10 @@ impl Recorder {
         kept::check(&self.keeper, test, &history, reads, self.bounds)
     }
 
-    /// Says why the history fails the test, unless each register keeps the level, a read was completed, and the
-    /// recorder was used rightly. It leaves the history, the report of reglevel and a page as `check` does, with
-    /// the words of `regkit levels`. The page shows why the history isn't linearizable. [`check_level`] says
-    /// which histories have an answer.
+    /// Says why the history fails the test, unless each register keeps the level, a read was completed, and
+    /// the recorder was used rightly. It leaves the history, the report of reglevel and a page as `check`
+    /// does, with the words of `regkit levels`. The page shows why the history isn't linearizable.
+    /// [`check_level`] says which histories have an answer.
     ///
     /// [`check_level`]: crate::check_level
     ///

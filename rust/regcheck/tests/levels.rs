@@ -1,4 +1,6 @@
-//! What is said of levels. This test is by itself in its process, since it changes variables.
+//! What is said of levels. This test is by itself in its process, since it changes variables. The same code runs
+//! where the library is linked; its tests find no program.
+#![cfg(not(feature = "library"))]
 use regcheck::{check_level, Level, Recorder, Trouble};
 use std::{env, fs, path::Path, process};
 
