@@ -264,7 +264,8 @@ test("a level that is kept, and those that aren't", async () => {
   assert.match(fs.readFileSync(path.join(folder, "level.html"), "utf8"), /<\/svg>/);
   assert.match(fs.readFileSync(path.join(folder, "level.report"), "utf8"), /"session":"no"/);
   const no = checkLevel(recorder.history(), "session");
-  assert.match(levelWords(recorder.history(), no), /^keeps read your writes; .*\n {2}required: session, which doesn't/);
+  assert.match(
+    levelWords(recorder.history(), no), /^keeps read your writes; .*\n {2}required: session, which doesn't/);
   assert.strictEqual(levelWords(recorder.history(), checkLevel(recorder.history(), "own_writes")), "");
   withProgram("REGKIT", "/nowhere/regkit", () => assert.throws(() => recorder.assertLevel("level", "session"),
     /level.jsonl: doesn't keep session\n {2}{"atomic":"no".*\n\n\/nowhere\/regkit could not be run/));
@@ -276,8 +277,8 @@ test("no answer about a level", async () => {
   const asserted = () => recorder.assertLevel("none", "session");
   assert.throws(asserted, (error) => error instanceof NotKept
     && error.message.includes("the history keeps session, but no read was completed"));
-  withProgram("REGLEVEL", "/nowhere/reglevel", () => assert.throws(asserted, (error) => error instanceof NotChecked
-    && error.message.includes("no verdict: /nowhere/reglevel could not be run")));
+  withProgram("REGLEVEL", "/nowhere/reglevel", () => assert.throws(asserted, (error) => (
+    error instanceof NotChecked && error.message.includes("no verdict: /nowhere/reglevel could not be run"))));
   assert.throws(() => recorder.assertLevel("none", "causal"), /"causal" is no level: it is one of atomic, /);
   await recorder.client("one").cas("x", 1, 2, () => true);
   assert.throws(asserted, (error) => error instanceof NotChecked

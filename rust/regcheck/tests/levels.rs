@@ -1,5 +1,5 @@
-//! What is said of levels. This test is by itself in its process, since it changes variables. The same code runs
-//! where the library is linked; its tests find no program.
+//! What is said of levels. This test is by itself in its process, since it changes variables. The same code
+//! runs where the library is linked; its tests find no program.
 #![cfg(not(feature = "library"))]
 use regcheck::{check_level, Level, Recorder, Trouble};
 use std::{env, fs, path::Path, process};
@@ -46,7 +46,10 @@ fn each_level(folder: &Path) {
     }
     let words = not_kept(&recorder, Level::Session);
     expect(&words, "level.jsonl: keeps read your writes; ");
-    expect(&words, "required: session, which doesn't hold of 1 of 1 register");
+    expect(
+        &words,
+        "required: session, which doesn't hold of 1 of 1 register",
+    );
     let kept = |end: &str| fs::read_to_string(folder.join(format!("level.{end}"))).unwrap();
     expect(&kept("html"), "</svg>");
     expect(&kept("report"), "\"session\":\"no\"");
@@ -58,7 +61,10 @@ fn each_level(folder: &Path) {
     env::set_var("REGKIT", "/nowhere/regkit");
     let words = not_kept(&recorder, Level::Session);
     env::remove_var("REGKIT");
-    expect(&words, "level.jsonl: doesn't keep session\n  {\"atomic\":\"no\"");
+    expect(
+        &words,
+        "level.jsonl: doesn't keep session\n  {\"atomic\":\"no\"",
+    );
     expect(&words, "/nowhere/regkit could not be run");
 }
 
