@@ -812,8 +812,8 @@ public final class Recorder {
         }
 
         /**
-         * The words, and where the files are; it has the page drawn too, by a report that is given if it isn't
-         * in a file. What is brief stands in the place of words that there are none of.
+         * The words, and where the files are; it has the page drawn too, by a report that is given if it
+         * isn't in a file. What is brief stands in the place of words that there are none of.
          */
         String explain(String brief, Supplier<String> say, String report, Supplier<byte[]> given) {
             String kept = "history: " + history() + "\nreport: " + report();
