@@ -1,7 +1,7 @@
 "use strict";
 /**
  * Records what the clients of a store call and get, and asks the programs `regcheck` and `regsearch` whether
- * it is linearizable.
+ * it is linearizable, or the program `reglevel` whether it keeps a weaker level.
  *
  *     const { Recorder } = require("regcheck");
  *
@@ -21,6 +21,7 @@ const path = require("node:path");
 const NAME_BYTES = 255;
 const [LEAST, GREATEST] = [-(2n ** 63n), 2n ** 63n - 1n];
 const [ATOMIC, NOT_ATOMIC, REFUSED, GAVE_UP] = [0, 1, 2, 6]; // exit statuses of the programs
+const LEVELS = ["atomic", "regular", "session", "own_writes", "monotonic", "sequential"];
 const VERDICTS = { [ATOMIC]: "yes", [NOT_ATOMIC]: "no", [GAVE_UP]: "unknown" };
 
 /**
@@ -30,6 +31,9 @@ class Mistake extends Error {}
 
 /** No order of the operations explains what the clients saw, or too little was read to say so. */
 class NotLinearizable extends Error {}
+
+/** Some register doesn't keep the level, or too little was read to say so. */
+class NotKept extends Error {}
 
 /** The checker gave no verdict: it refused the history, its search gave up, or it failed. */
 class NotChecked extends Error {}
@@ -283,9 +287,18 @@ class Recorder {
    * and the page are made by `regkit`: where it isn't there, the report stands in their place.
    */
   assertLinearizable(test) {
-    if (this.mistakes.length > 0) throw this.mistakes[0];
-    const begin = path.join(this.folder, test.replace(/[^A-Za-z0-9._-]+/g, "_").slice(-200));
-    assertLinearizable(this, begin);
+    assertHolds(this, test, linearizable(this));
+  }
+
+  /**
+   * Throws unless each register of the history keeps the level, a read was completed, and the recorder was
+   * used rightly. The level is "atomic", "regular", "session", "own_writes", "monotonic" or "sequential". It
+   * says why in the words of `regkit levels`, and leaves the history, the report of reglevel and a page as
+   * assertLinearizable does. The page shows why the history isn't linearizable. checkLevel says which
+   * histories have an answer.
+   */
+  assertLevel(test, level) {
+    assertHolds(this, test, levelKept(level));
   }
 
   /**
@@ -340,8 +353,9 @@ function mustFind(variable, name) {
 }
 
 /** The exit status and the output of a program, as texts. Throws NotChecked if it can't be run. */
-function run(program, words, input = "") {
-  const ran = spawnSync(program, words, { input, encoding: "utf8", maxBuffer: Infinity });
+function run(program, words, input = "", more = {}) {
+  const env = { ...process.env, ...more };
+  const ran = spawnSync(program, words, { input, env, encoding: "utf8", maxBuffer: Infinity });
   if (ran.error && ran.error.code !== "EPIPE") {
     throw new NotChecked(`${program} could not be run: ${ran.error.message}`);
   }
@@ -376,6 +390,22 @@ function check(history, bounds = {}) {
   throw new NotChecked(status === REFUSED ? words : `${program} ended with status ${status}: ${words}`);
 }
 
+/**
+ * Whether each register of a history keeps a level, `kept`, and the report. It runs reglevel, which takes
+ * reads and writes, each value written once to a register. Throws NotChecked, in the words of the program, if
+ * there is no answer, and RangeError if there is no such level.
+ */
+function checkLevel(history, level) {
+  if (!LEVELS.includes(level)) {
+    throw new RangeError(`"${level}" is no level: it is one of ${LEVELS.join(", ")}`);
+  }
+  const program = mustFind("REGLEVEL", "reglevel");
+  const { status, output, words } = run(program, ["--stale", "--require", level], history);
+  if (status === ATOMIC || status === NOT_ATOMIC) return { level, kept: status === ATOMIC, report: output };
+  throw new NotChecked(status === REFUSED ? `${words}; reglevel takes reads and writes of distinct values`
+    : `${program} ended with status ${status}: ${words}`);
+}
+
 const owners = new Map(); // by how the files begin that failed tests of this process left
 
 /** The files whose names begin so. */
@@ -401,8 +431,34 @@ function keep(file, text) {
   fs.writeFileSync(file, text);
 }
 
-function assertLinearizable(recorder, begin) {
-  const { bounds, reads } = recorder;
+/** How to check that a recorder's history is linearizable. */
+const linearizable = ({ bounds }) => ({
+  check: (history) => check(history, bounds),
+  holds: (checked) => checked.verdict === "yes",
+  what: "is linearizable",
+  Failed: NotLinearizable,
+  explain(files, checked) {
+    const words = explain(files, reported(checked), () => explained(files, bounds), files.report);
+    if (checked.verdict === "no") return words;
+    throw new NotChecked(`${words}\nbounds: give the recorder bounds with more steps or configurations`);
+  },
+});
+
+/** How to check that a history keeps a level. The page is that of the report of regcheck. */
+const levelKept = (level) => ({
+  check: (history) => checkLevel(history, level),
+  holds: (checked) => checked.kept,
+  what: `keeps ${level}`,
+  Failed: NotKept,
+  explain(files, checked, history) {
+    return explain(
+      files, lacking(checked), () => levelExplained(files, level), "-", () => check(history).report);
+  },
+});
+
+function assertHolds(recorder, test, { check: ask, holds, what, Failed, explain: explainIn }) {
+  if (recorder.mistakes.length > 0) throw recorder.mistakes[0];
+  const begin = path.join(recorder.folder, test.replace(/[^A-Za-z0-9._-]+/g, "_").slice(-200));
   const history = recorder.history();
   const kept = () => {
     const files = filesFor(recorder, begin);
@@ -411,23 +467,22 @@ function assertLinearizable(recorder, begin) {
   };
   let checked;
   try {
-    checked = check(history, bounds);
+    checked = ask(history);
   } catch (error) {
+    if (!(error instanceof NotChecked)) throw error;
     throw new NotChecked(`no verdict: ${error.message}\n\nhistory: ${kept().history}`, { cause: error });
   }
-  if (checked.verdict === "yes" && reads > 0) {
+  if (holds(checked) && recorder.reads > 0) {
     clear(begin);
     return;
   }
   const files = kept();
   keep(files.report, checked.report);
-  if (checked.verdict === "yes") {
-    throw new NotLinearizable("too little evidence: the history is linearizable, but no read was "
-      + `completed\n\nhistory: ${files.history}`);
+  if (holds(checked)) {
+    throw new Failed(
+      `too little evidence: the history ${what}, but no read was completed\n\nhistory: ${files.history}`);
   }
-  const words = explain(files, checked, bounds);
-  if (checked.verdict === "no") throw new NotLinearizable(words);
-  throw new NotChecked(`${words}\nbounds: give the recorder bounds with more steps or configurations`);
+  throw new Failed(explainIn(files, checked, history));
 }
 
 /** Why the kept history isn't linearizable, or what to do if nobody knows, in the words of regkit. */
@@ -445,28 +500,70 @@ function explained(files, bounds) {
  */
 function words(history, answer, bounds = {}) {
   if (answer.verdict === "yes") return "";
+  return inFolder(history, (files) => {
+    keep(files.report, answer.report);
+    return explained(files, bounds);
+  });
+}
+
+/** What is said of the files of a history that are gone with it, without the history's name. */
+function inFolder(history, say) {
   const folder = fs.mkdtempSync(path.join(os.tmpdir(), "regcheck-"));
-  const files = { history: path.join(folder, "history.jsonl"), report: path.join(folder, "history.report") };
+  const files = filesOf(path.join(folder, "history"));
   try {
     keep(files.history, history);
-    keep(files.report, answer.report);
-    return explained(files, bounds).slice(`${files.history}: `.length);
+    return say(files).slice(`${files.history}: `.length);
   } finally {
     fs.rmSync(folder, { recursive: true });
   }
 }
 
-/** The words, and where the files are, of a test that fails; it draws the page too. */
-function explain(files, checked, bounds) {
+/** Why the kept history doesn't keep a level, in the words of regkit, by the reglevel that is found here. */
+function levelExplained(files, level) {
+  const { status, output, words } = run(mustFind("REGKIT", "regkit"),
+    ["levels", "--color", "never", "--require", level, files.history], "",
+    { REGLEVEL: mustFind("REGLEVEL", "reglevel") });
+  if (status !== NOT_ATOMIC) throw new NotChecked(words);
+  return output.trimEnd();
+}
+
+/**
+ * Why a history doesn't keep a level, as `regkit levels` says it; if it does, nothing. The answer is that of
+ * `checkLevel`. Throws NotChecked if there are no words.
+ */
+function levelWords(history, answer) {
+  return answer.kept ? "" : inFolder(history, (files) => levelExplained(files, answer.level));
+}
+
+/**
+ * The words, and where the files are, of a test that fails; it draws the page too, by a report that is given
+ * if it isn't in a file. What is short stands in the place of words that there are none of.
+ */
+function explain(files, short, say, report, given = () => "") {
   const kept = `history: ${files.history}\nreport: ${files.report}`;
   try {
-    const told = explained(files, bounds);
-    const drawn = run(mustFind("REGKIT", "regkit"), ["draw", files.history, files.report, "-o", files.page]);
-    const page = drawn.status === 0 ? `page: ${files.page}` : `no page: ${drawn.words}`;
-    return `${told}\n\n${kept}\n${page}`;
+    return `${say()}\n\n${kept}\n${draw(files, report, given)}`;
   } catch (error) {
-    return `${files.history}: ${reported(checked)}\n\n${error.message}\n${kept}`;
+    return `${files.history}: ${short}\n\n${error.message}\n${kept}`;
   }
+}
+
+/** Where the page is, or why there is none. */
+function draw(files, report, given) {
+  try {
+    const program = mustFind("REGKIT", "regkit");
+    const { status, words } = run(program, ["draw", files.history, report, "-o", files.page], given());
+    return status === 0 ? `page: ${files.page}` : `no page: ${words}`;
+  } catch (error) {
+    return `no page: ${error.message}`;
+  }
+}
+
+/** The lines of the report whose registers lack the level. */
+function lacking({ level, report }) {
+  const lines = report.split("\n")
+    .filter((line) => line.includes('"register":') && line.includes(`"${level}":"no"`));
+  return [`doesn't keep ${level}`, ...lines.map((line) => `  ${line}`)].join("\n");
 }
 
 /** The verdict, and the lines of the report that it rests on. */
@@ -478,4 +575,7 @@ function reported({ verdict, report }) {
   return [words, ...lines].join("\n");
 }
 
-module.exports = { Recorder, Client, Mistake, NoEffect, NotLinearizable, NotChecked, check, words };
+module.exports = {
+  Recorder, Client, Mistake, NoEffect, NotLinearizable, NotKept, NotChecked,
+  check, words, checkLevel, levelWords,
+};

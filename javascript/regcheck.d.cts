@@ -10,6 +10,9 @@ export class Mistake extends Error {}
 /** No order of the operations explains what the clients saw, or too little was read to say so. */
 export class NotLinearizable extends Error {}
 
+/** Some register doesn't keep the level, or too little was read to say so. */
+export class NotKept extends Error {}
+
 /** The checker gave no verdict: it refused the history, its search gave up, or it failed. */
 export class NotChecked extends Error {}
 
@@ -56,6 +59,9 @@ export interface Options {
   bounds?: Bounds;
 }
 
+/** A guarantee that a store may give of each of its keys. docs/levels.md explains them. */
+export type Level = "atomic" | "regular" | "session" | "own_writes" | "monotonic" | "sequential";
+
 /** A history in the making. */
 export class Recorder {
   constructor(options?: Options);
@@ -65,6 +71,7 @@ export class Recorder {
   client(name?: string, node?: string): Client;
   history(): string;
   assertLinearizable(test: string): void;
+  assertLevel(test: string, level: Level): void;
 }
 
 export interface Answer {
@@ -77,3 +84,16 @@ export function check(history: string, bounds?: Bounds): Answer;
 
 /** Why a history isn't linearizable, or what to do if nobody knows; of a yes, nothing. */
 export function words(history: string, answer: Answer, bounds?: Bounds): string;
+
+export interface LevelAnswer {
+  level: Level;
+  kept: boolean;
+  /** That of reglevel. */
+  report: string;
+}
+
+/** Whether each register of a history keeps a level. Throws NotChecked if there is no answer. */
+export function checkLevel(history: string, level: Level): LevelAnswer;
+
+/** Why a history doesn't keep a level; if it does, nothing. */
+export function levelWords(history: string, answer: LevelAnswer): string;

@@ -39,18 +39,32 @@ func Record(test TB) *Recorder {
 // where it isn't there, Assert says so, and gives the lines of the report instead.
 func (recorder *Recorder) Assert(test TB) bool {
 	test.Helper()
-	if err := recorder.Err(); err != nil {
-		test.Errorf("the recorder was used wrongly: %v", err)
+	reads, keeper, ok := recorder.recorded(test)
+	if !ok {
 		return false
 	}
 	recorder.lock.Lock()
-	reads, folder, bounds := recorder.reads, recorder.Folder, recorder.Bounds
+	bounds := recorder.Bounds
 	recorder.lock.Unlock()
+	answer, err := CheckHistory(recorder.History(), bounds...)
+	return assert(test, keeper, answer.finding(), err, reads)
+}
+
+// recorded gives how many reads were completed, and who keeps files. It fails the test if the recorder was
+// used wrongly.
+func (recorder *Recorder) recorded(test TB) (int, keeper, bool) {
+	test.Helper()
+	if err := recorder.Err(); err != nil {
+		test.Errorf("the recorder was used wrongly: %v", err)
+		return 0, keeper{}, false
+	}
+	recorder.lock.Lock()
+	defer recorder.lock.Unlock()
+	folder := recorder.Folder
 	if folder == "" {
 		folder = failuresFolder
 	}
-	answer, err := CheckHistory(recorder.History(), bounds...)
-	return assert(test, keeper{folder, recorder}, answer, err, reads)
+	return recorder.reads, keeper{folder, recorder}, true
 }
 
 // AssertOperations is CheckOperations for a test: it fails the test as Assert does.
@@ -68,27 +82,40 @@ func AssertOperations[O any](test TB, operations []O, as func(O) Operation, boun
 		return false
 	}
 	answer, err := CheckHistory(history, bounds...)
-	return assert(test, keeper{failuresFolder, &answer}, answer, err, reads)
+	return assert(test, keeper{failuresFolder, &answer}, answer.finding(), err, reads)
 }
 
-func assert(test TB, keeper keeper, answer Answer, err error, reads int) bool {
+// A finding is what an answer says of a history.
+type finding struct {
+	history, report []byte
+	holds           bool
+	what            string             // what the history does if that holds
+	explain         func(files) string // why it doesn't, from the kept files
+}
+
+func (answer Answer) finding() finding {
+	return finding{answer.History, answer.Report, answer.Verdict == Yes, "is linearizable",
+		func(files files) string { return files.explain(answer) }}
+}
+
+func assert(test TB, keeper keeper, found finding, err error, reads int) bool {
 	test.Helper()
-	if err == nil && answer.Verdict == Yes && reads > 0 {
+	if err == nil && found.holds && reads > 0 {
 		keeper.clear(test.Name())
 		return true
 	}
 	files := keeper.files(test.Name())
-	if unkept := files.keep(answer.History, answer.Report); unkept != nil {
+	if unkept := files.keep(found.history, found.report); unkept != nil {
 		test.Errorf("what the test recorded can't be kept: %v", unkept)
 	}
 	switch {
 	case err != nil:
 		test.Errorf("no verdict: %v\n\nhistory: %s", err, files.history)
-	case answer.Verdict == Yes:
-		test.Errorf("too little evidence: the history is linearizable, but no read was completed\n\nhistory: %s",
-			files.history)
+	case found.holds:
+		test.Errorf("too little evidence: the history %s, but no read was completed\n\nhistory: %s",
+			found.what, files.history)
 	default:
-		test.Errorf("%s", files.explain(answer))
+		test.Errorf("%s", found.explain(files))
 	}
 	return false
 }
@@ -159,7 +186,7 @@ func (files files) explain(answer Answer) string {
 	if err != nil {
 		return fmt.Sprintf("%s: %s\n%v\n%s", files.history, shown(answer), err, kept)
 	}
-	words += "\n\n" + kept + "\n" + files.draw()
+	words += "\n\n" + kept + "\n" + files.draw(files.report, nil)
 	if answer.Verdict == Unknown {
 		words += "\nbounds: give the recorder Bounds, such as Steps and Configurations"
 	}
@@ -184,13 +211,13 @@ func (files files) byRegkit(answer Answer) (string, error) {
 	return strings.TrimRight(string(said.output), "\n"), nil
 }
 
-// draw has the kept history drawn, and says where.
-func (files files) draw() string {
+// draw has the kept history drawn by a report, which is given if it isn't in a file, and says where.
+func (files files) draw(report string, given []byte) string {
 	path, err := regkit()
 	if err != nil {
 		return "no page: " + err.Error()
 	}
-	said, err := run(path, nil, "draw", files.history, files.report, "-o", files.page)
+	said, err := run(path, given, "draw", files.history, report, "-o", files.page)
 	switch {
 	case err != nil:
 		return "no page: " + err.Error()

@@ -2,11 +2,6 @@
 
 package regcheck
 
-import (
-	"regexp"
-	"strconv"
-)
-
 // checked gives what regcheck says of the history.
 func checked(history []byte) (Verdict, []byte, error) {
 	path, err := checker()
@@ -37,16 +32,4 @@ func judged(path string, history []byte, words ...string) (Verdict, []byte, erro
 		return Unknown, nil, refusalOf(said.complaint)
 	}
 	return Unknown, nil, said.failure(path)
-}
-
-var ofALine = regexp.MustCompile(`^line (\d+): .*?(?: at line (\d+))?$`)
-
-// refusalOf reads what a program said.
-func refusalOf(words string) *Refusal {
-	refusal := &Refusal{Words: words}
-	if found := ofALine.FindStringSubmatch(words); found != nil {
-		refusal.Line, _ = strconv.Atoi(found[1])
-		refusal.Other, _ = strconv.Atoi(found[2]) // 0 if there is none
-	}
-	return refusal
 }

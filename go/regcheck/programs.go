@@ -7,10 +7,12 @@ import (
 	"os"
 	"os/exec"
 	"path/filepath"
+	"regexp"
+	"strconv"
 	"strings"
 )
 
-// The exit statuses of regcheck and regsearch, and of `regkit explain`.
+// The exit statuses of regcheck, regsearch and reglevel, and of `regkit explain` and `regkit levels`.
 const (
 	statusAtomic    = 0
 	statusNotAtomic = 1
@@ -66,7 +68,13 @@ func (said said) failure(path string) error {
 
 // run runs a program to its end.
 func run(path string, input []byte, arguments ...string) (said, error) {
+	return runIn(nil, path, input, arguments...)
+}
+
+// runIn does the same, with more in the program's environment.
+func runIn(more []string, path string, input []byte, arguments ...string) (said, error) {
 	command := exec.Command(path, arguments...)
+	command.Env = append(os.Environ(), more...)
 	var output, complaint bytes.Buffer
 	command.Stdin, command.Stdout, command.Stderr = bytes.NewReader(input), &output, &complaint
 	err := command.Run()
@@ -76,4 +84,16 @@ func run(path string, input []byte, arguments ...string) (said, error) {
 	}
 	words := strings.TrimRight(complaint.String(), "\n")
 	return said{command.ProcessState.ExitCode(), output.Bytes(), words}, nil
+}
+
+var ofALine = regexp.MustCompile(`^line (\d+): .*?(?: at line (\d+))?$`)
+
+// refusalOf reads what a program said.
+func refusalOf(words string) *Refusal {
+	refusal := &Refusal{Words: words}
+	if found := ofALine.FindStringSubmatch(words); found != nil {
+		refusal.Line, _ = strconv.Atoi(found[1])
+		refusal.Other, _ = strconv.Atoi(found[2]) // 0 if there is none
+	}
+	return refusal
 }

@@ -1,5 +1,5 @@
 // Package regcheck says whether recorded runs of registers are linearizable. It asks the proved checkers
-// regcheck and regsearch, and decides nothing itself.
+// regcheck, regsearch and reglevel, and decides nothing itself.
 //
 // A Recorder writes down what goroutines call and get, and fails a test with an explanation in words. Check
 // takes operations with the times of their calls and returns, as the checker Porcupine does. CheckHistory

@@ -12,17 +12,20 @@ import java.nio.file.Path;
 import java.util.ArrayList;
 import java.util.HashMap;
 import java.util.List;
+import java.util.Locale;
 import java.util.Map;
 import java.util.Optional;
 import java.util.concurrent.ConcurrentHashMap;
+import java.util.function.Consumer;
 import java.util.function.Function;
 import java.util.function.LongSupplier;
+import java.util.function.Supplier;
 import java.util.stream.Collectors;
 import java.util.stream.Stream;
 
 /**
  * Records what the clients of a store call and get, and asks the programs {@code regcheck} and
- * {@code regsearch} whether it is linearizable.
+ * {@code regsearch} whether it is linearizable, or {@code reglevel} whether it keeps a weaker level.
  *
  * <pre>{@code
  * Recorder recorder = new Recorder();
@@ -121,23 +124,40 @@ public final class Recorder {
      * made by {@code regkit}: where it isn't there, the report stands in their place.
      */
     public void assertLinearizable(String test) {
+        assertHolds(test, () -> Finding.of(check(history(), bounds)));
+    }
+
+    /**
+     * Throws unless each register of the history keeps the level, a read was completed, and the recorder was
+     * used rightly. It says why in the words of {@code regkit levels}, and leaves the history, the report of
+     * reglevel and a page as assertLinearizable does. The page shows why the history isn't linearizable.
+     * checkLevel says which histories have an answer.
+     */
+    public void assertLevel(String test, Level level) {
+        assertHolds(test, () -> Finding.of(checkLevel(history(), level)));
+    }
+
+    private void assertHolds(String test, Supplier<Finding> checked) {
         for (Mistake mistake : mistakes()) {
             throw mistake;
         }
         String name = test.replaceAll("[^A-Za-z0-9._-]+", "_");
         Path begin = folder.resolve(name.substring(Math.max(0, name.length() - 200)));
-        Answer answer;
+        Finding found;
         try {
-            answer = check(history(), bounds);
+            found = checked.get();
         } catch (NotChecked none) {
             Kept kept = keep(begin);
             throw new NotChecked("no verdict: " + none.getMessage() + "\n\nhistory: " + kept.history());
         }
-        if (answer.verdict() == Verdict.YES && hasRead()) {
+        if (found.holds() && hasRead()) {
             Kept.delete(begin);
             return;
         }
-        fail(keep(begin), answer);
+        Kept kept = keep(begin);
+        kept.keep(kept.report(), found.report());
+        found.fail().accept(found.holds() ? "too little evidence: the history " + found.what()
+                + ", but no read was completed\n\nhistory: " + kept.history() : found.why().apply(kept));
     }
 
     private Kept keep(Path begin) {
@@ -146,14 +166,33 @@ public final class Recorder {
         return kept;
     }
 
-    private static void fail(Kept kept, Answer answer) {
-        kept.keep(kept.report(), answer.report());
-        switch (answer.verdict()) {
-            case YES -> throw new NotLinearizable("too little evidence: the history is linearizable, but no "
-                    + "read was completed\n\nhistory: " + kept.history());
-            case NO -> throw new NotLinearizable(kept.explain(answer));
-            case UNKNOWN -> throw new NotChecked(
-                    kept.explain(answer) + "\nbounds: give the recorder more steps or configurations");
+    /**
+     * What an answer says of a history: what the history does if that holds, why it doesn't, from the kept
+     * files, and what throws these words.
+     */
+    private record Finding(
+            boolean holds, byte[] report, String what, Function<Kept, String> why, Consumer<String> fail) {
+        static Finding of(Answer answer) {
+            return new Finding(answer.verdict() == Verdict.YES, answer.report(), "is linearizable",
+                    kept -> kept.explain(Kept.shown(answer), () -> kept.told(answer.bounds()), kept.report(),
+                            () -> new byte[0]),
+                    words -> {
+                        if (answer.verdict() == Verdict.UNKNOWN) {
+                            throw new NotChecked(
+                                    words + "\nbounds: give the recorder more steps or configurations");
+                        }
+                        throw new NotLinearizable(words);
+                    });
+        }
+
+        /** The page is that of the report of regcheck, since one of reglevel has no fault to draw. */
+        static Finding of(LevelAnswer answer) {
+            return new Finding(answer.kept(), answer.report(), "keeps " + answer.level().key(),
+                    kept -> kept.explain(Kept.lacking(answer), () -> kept.levels(answer), "-",
+                            () -> check(kept.content()).report()),
+                    words -> {
+                        throw new NotKept(words);
+                    });
         }
     }
 
@@ -190,21 +229,66 @@ public final class Recorder {
             if (verdict == Verdict.YES) {
                 return "";
             }
-            try {
-                Path folder = Files.createTempDirectory("regcheck-");
-                Kept kept = new Kept(folder.resolve("history"));
-                try {
-                    kept.keep(kept.history(), history);
-                    kept.keep(kept.report(), report);
-                    return kept.told(bounds).substring((kept.history() + ": ").length());
-                } finally {
-                    Kept.delete(kept.begin());
-                    Files.delete(folder);
-                }
-            } catch (IOException error) {
-                throw new UncheckedIOException(error);
-            }
+            return Kept.inFolder(history, kept -> {
+                kept.keep(kept.report(), report);
+                return kept.told(bounds);
+            });
         }
+    }
+
+    /**
+     * A guarantee that a store may give of each of its keys. docs/levels.md explains them. A session is a
+     * client of a recorder until one of its calls stays pending.
+     */
+    public enum Level {
+        /** Linearizable: each read gives the latest write. */
+        ATOMIC,
+        /** No read misses a newer write that had ended before it began. */
+        REGULAR,
+        /** Writes in the order of time, and each session sees its own operations in order. */
+        SESSION,
+        /** Writes in the order of time, and no session misses a write of its own. */
+        OWN_WRITES,
+        /** Writes in the order of time, and no session goes back to an older value. */
+        MONOTONIC,
+        /** Each session in order, and all agree on one order of the writes. */
+        SEQUENTIAL;
+
+        /** The word of the command line, and the key of the report. */
+        private String key() {
+            return name().toLowerCase(Locale.ROOT);
+        }
+    }
+
+    /**
+     * Whether each register of a history keeps a level, the report of reglevel, and the path of the reglevel
+     * that answered.
+     */
+    public record LevelAnswer(Level level, boolean kept, byte[] report, String program) {
+        /**
+         * Why the history doesn't keep the level, as {@code regkit levels} says it; if it does, nothing.
+         * Throws NotChecked if there are no words.
+         */
+        public String words(byte[] history) {
+            return kept ? "" : Kept.inFolder(history, files -> files.levels(this));
+        }
+    }
+
+    /**
+     * Says whether each register of a history keeps a level. It runs reglevel, which takes what regcheck
+     * takes: reads and writes, each value written once to a register. Throws NotChecked, in the words of the
+     * program, if there is no answer.
+     */
+    public static LevelAnswer checkLevel(byte[] history, Level level) {
+        String program = Programs.reglevel();
+        Ran ran = Ran.run(history, List.of(program, "--stale", "--require", level.key()));
+        return switch (ran.status()) {
+            case ATOMIC, NOT_ATOMIC -> new LevelAnswer(level, ran.status() == ATOMIC, ran.output(), program);
+            case REFUSED -> throw new NotChecked(
+                    ran.words() + "; reglevel takes reads and writes of distinct values");
+            default -> throw new NotChecked(
+                    program + " ended with status " + ran.status() + ": " + ran.words());
+        };
     }
 
     /**
@@ -255,6 +339,13 @@ public final class Recorder {
     /** No order of the operations explains what the clients saw, or too little was read to say so. */
     public static final class NotLinearizable extends AssertionError {
         private NotLinearizable(String words) {
+            super(words);
+        }
+    }
+
+    /** Some register doesn't keep the level, or too little was read to say so. */
+    public static final class NotKept extends AssertionError {
+        private NotKept(String words) {
             super(words);
         }
     }
@@ -551,6 +642,10 @@ public final class Recorder {
             return companion("REGSEARCH", "regsearch");
         }
 
+        static String reglevel() {
+            return companion("REGLEVEL", "reglevel");
+        }
+
         static String regkit() {
             return companion("REGKIT", "regkit");
         }
@@ -589,13 +684,20 @@ public final class Recorder {
     /** What a run of a program gave. */
     private record Ran(int status, byte[] output, String words) {
         static Ran run(byte[] input, List<String> command) {
+            return run(input, command, Map.of());
+        }
+
+        /** The same with more in the program's environment. */
+        static Ran run(byte[] input, List<String> command, Map<String, String> more) {
             try {
                 Path given = Files.createTempFile("regcheck-", ".jsonl");
                 Path said = Files.createTempFile("regcheck-", ".words");
                 try {
                     Files.write(given, input);
-                    Process process = new ProcessBuilder(command).redirectInput(given.toFile())
-                            .redirectError(said.toFile()).start();
+                    ProcessBuilder builder = new ProcessBuilder(command).redirectInput(given.toFile())
+                            .redirectError(said.toFile());
+                    builder.environment().putAll(more);
+                    Process process = builder.start();
                     byte[] output = process.getInputStream().readAllBytes();
                     return new Ran(process.waitFor(), output, Files.readString(said).stripTrailing());
                 } finally {
@@ -672,23 +774,80 @@ public final class Recorder {
             return new String(told.output(), StandardCharsets.UTF_8).stripTrailing();
         }
 
-        /** The words, and where the files are; it has the page drawn too. */
-        String explain(Answer answer) {
-            String kept = "history: " + history() + "\nreport: " + report();
-            String page = begin + ".html";
+        /** Why the kept history doesn't keep the level, in the words of regkit, by the same reglevel. */
+        String levels(LevelAnswer answer) {
+            List<String> command = List.of(Programs.regkit(), "levels", "--color", "never", "--require",
+                    answer.level().key(), history());
+            Ran told = Ran.run(new byte[0], command, Map.of("REGLEVEL", answer.program()));
+            if (told.status() != NOT_ATOMIC) {
+                throw new NotChecked(told.words());
+            }
+            return new String(told.output(), StandardCharsets.UTF_8).stripTrailing();
+        }
+
+        /** What is said of files of a history that are gone with it, without the history's name. */
+        static String inFolder(byte[] history, Function<Kept, String> say) {
             try {
-                String told = told(answer.bounds());
-                Ran drawn = Ran.run(
-                        new byte[0], List.of(Programs.regkit(), "draw", history(), report(), "-o", page));
-                return told + "\n\n" + kept + "\n"
-                        + (drawn.status() == 0 ? "page: " + page : "no page: " + drawn.words());
-            } catch (NotChecked none) {
-                return history() + ": " + shown(answer) + "\n\n" + none.getMessage() + "\n" + kept;
+                Path folder = Files.createTempDirectory("regcheck-");
+                Kept kept = new Kept(folder.resolve("history"));
+                try {
+                    kept.keep(kept.history(), history);
+                    return say.apply(kept).substring((kept.history() + ": ").length());
+                } finally {
+                    delete(kept.begin());
+                    Files.delete(folder);
+                }
+            } catch (IOException error) {
+                throw new UncheckedIOException(error);
             }
         }
 
+        /** The kept history. */
+        byte[] content() {
+            try {
+                return Files.readAllBytes(Path.of(history()));
+            } catch (IOException error) {
+                throw new UncheckedIOException(error);
+            }
+        }
+
+        /**
+         * The words, and where the files are; it has the page drawn too, by a report that is given if it
+         * isn't in a file. What is brief stands in the place of words that there are none of.
+         */
+        String explain(String brief, Supplier<String> say, String report, Supplier<byte[]> given) {
+            String kept = "history: " + history() + "\nreport: " + report();
+            try {
+                return say.get() + "\n\n" + kept + "\n" + draw(report, given);
+            } catch (NotChecked none) {
+                return history() + ": " + brief + "\n\n" + none.getMessage() + "\n" + kept;
+            }
+        }
+
+        /** Where the page is, or why there is none. */
+        private String draw(String report, Supplier<byte[]> given) {
+            String page = begin + ".html";
+            try {
+                Ran drawn = Ran.run(
+                        given.get(), List.of(Programs.regkit(), "draw", history(), report, "-o", page));
+                return drawn.status() == 0 ? "page: " + page : "no page: " + drawn.words();
+            } catch (NotChecked none) {
+                return "no page: " + none.getMessage();
+            }
+        }
+
+        /** The lines of the report whose registers lack the level. */
+        static String lacking(LevelAnswer answer) {
+            String level = answer.level().key();
+            String no = "\"" + level + "\":\"no\"";
+            Stream<String> lines = new String(answer.report(), StandardCharsets.UTF_8).lines()
+                    .filter(line -> line.contains("\"register\":") && line.contains(no))
+                    .map(line -> "  " + line);
+            return Stream.concat(Stream.of("doesn't keep " + level), lines).collect(Collectors.joining("\n"));
+        }
+
         /** The verdict, and the lines of the report that it rests on. */
-        private static String shown(Answer answer) {
+        static String shown(Answer answer) {
             boolean unknown = answer.verdict() == Verdict.UNKNOWN;
             String verdict = unknown
                     ? "unknown: the search gave up; raise its bounds, or record runs with fewer calls open at once"

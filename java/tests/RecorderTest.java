@@ -9,6 +9,7 @@ import java.util.ArrayList;
 import java.util.Comparator;
 import java.util.List;
 import java.util.Map;
+import java.util.TreeMap;
 import java.util.concurrent.ConcurrentHashMap;
 import java.util.concurrent.TimeoutException;
 import java.util.concurrent.atomic.AtomicLong;
@@ -281,6 +282,55 @@ final class RecorderTest {
         expect(!notFound.contains("could not be run"), "a folder is taken for regsearch: " + notFound);
     }
 
+    /** One session reads the newer value, and then the older one. */
+    private static Recorder goesBack() {
+        Recorder recorder = new Recorder().keepIn(folder);
+        recorder.client("one").write("x", value -> {});
+        Recorder.Client two = recorder.client("two");
+        two.read("x", () -> 1);
+        two.read("x", () -> null);
+        return recorder;
+    }
+
+    static void levels() throws Exception {
+        Recorder recorder = goesBack();
+        recorder.assertLevel("level", Recorder.Level.OWN_WRITES);
+        for (Recorder.Level level : Recorder.Level.values()) {
+            if (level != Recorder.Level.OWN_WRITES) {
+                thrown(Recorder.NotKept.class, () -> recorder.assertLevel("level", level));
+            }
+        }
+        Action session = () -> recorder.assertLevel("level", Recorder.Level.SESSION);
+        String words = thrown(Recorder.NotKept.class, session).getMessage();
+        expect(words.contains("level.jsonl: keeps read your writes; ") && words.contains(
+                "required: session, which doesn't hold of 1 of 1 register: \"x\""), words);
+        expect(Files.readString(folder.resolve("level.html")).contains("</svg>"), "the page is drawn");
+        expect(Files.readString(folder.resolve("level.report")).contains("\"session\":\"no\""), "the report");
+        Recorder.LevelAnswer no = Recorder.checkLevel(recorder.history(), Recorder.Level.SESSION);
+        String told = no.words(recorder.history());
+        expect(told.startsWith("keeps read your writes; "), told);
+        System.setProperty("regkit", "/nowhere/regkit");
+        String brief = thrown(Recorder.NotKept.class, session).getMessage();
+        System.clearProperty("regkit");
+        expect(brief.contains("level.jsonl: doesn't keep session\n  {\"atomic\":\"no\"")
+                && brief.contains("/nowhere/regkit could not be run"), brief);
+    }
+
+    static void noLevel() {
+        Recorder little = new Recorder().keepIn(folder);
+        little.client("one").write("x", value -> {});
+        Action session = () -> little.assertLevel("none", Recorder.Level.SESSION);
+        String words = thrown(Recorder.NotKept.class, session).getMessage();
+        expect(words.contains("the history keeps session, but no read was completed"), words);
+        System.setProperty("reglevel", "/nowhere/reglevel");
+        String none = thrown(Recorder.NotChecked.class, session).getMessage();
+        System.clearProperty("reglevel");
+        expect(none.contains("no verdict: /nowhere/reglevel could not be run"), none);
+        little.client("one").cas("x", 1L, 2, () -> true);
+        String refused = thrown(Recorder.NotChecked.class, session).getMessage();
+        expect(refused.contains("; reglevel takes reads and writes of distinct values"), refused);
+    }
+
     private interface Action {
         void act() throws Exception;
     }
@@ -307,12 +357,14 @@ final class RecorderTest {
 
     public static void main(String[] none) throws Exception {
         folder = Files.createTempDirectory("regcheck-");
-        Map<String, Action> tests = Map.of("lines", RecorderTest::lines, "mistakes", RecorderTest::mistakes,
+        Map<String, Action> named = Map.of("lines", RecorderTest::lines, "mistakes", RecorderTest::mistakes,
                 "threads", RecorderTest::threads, "evidence", RecorderTest::evidence,
                 "unknown", RecorderTest::unknown, "valuesAfter", RecorderTest::valuesAfter,
                 "faultWithoutRegkit", RecorderTest::faultWithoutRegkit, "words", RecorderTest::words,
                 "files", RecorderTest::files,
                 "noVerdict", RecorderTest::noVerdict);
+        Map<String, Action> tests = new TreeMap<>(named);
+        tests.putAll(Map.of("levels", RecorderTest::levels, "noLevel", RecorderTest::noLevel));
         int failed = 0;
         for (Map.Entry<String, Action> test : tests.entrySet()) {
             try {

@@ -4,7 +4,9 @@ const fs = require("node:fs");
 const os = require("node:os");
 const path = require("node:path");
 const test = require("node:test");
-const { check, Mistake, NoEffect, NotChecked, NotLinearizable, Recorder, words } = require("../regcheck.cjs");
+const {
+  check, checkLevel, levelWords, Mistake, NoEffect, NotChecked, NotKept, NotLinearizable, Recorder, words,
+} = require("../regcheck.cjs");
 
 function ticking() {
   let time = 0n;
@@ -240,4 +242,45 @@ test("the words on any history are those of regkit", async () => {
   });
   withProgram("REGKIT", "/nowhere/regkit",
     () => assert.throws(() => words(history, check(history)), NotChecked));
+});
+
+/** One session reads the newer value, and then the older one. */
+async function goesBack() {
+  const recorder = new Recorder({ folder });
+  await recorder.client("one").write("x", () => {});
+  const two = recorder.client("two");
+  await two.read("x", () => 1);
+  await two.read("x", () => null);
+  return recorder;
+}
+
+test("a level that is kept, and those that aren't", async () => {
+  const recorder = await goesBack();
+  recorder.assertLevel("level", "own_writes");
+  for (const level of ["atomic", "regular", "session", "monotonic", "sequential"]) {
+    assert.throws(() => recorder.assertLevel("level", level), (error) => error instanceof NotKept
+      && error.message.includes("level.jsonl: keeps read your writes; not linearizable"));
+  }
+  assert.match(fs.readFileSync(path.join(folder, "level.html"), "utf8"), /<\/svg>/);
+  assert.match(fs.readFileSync(path.join(folder, "level.report"), "utf8"), /"session":"no"/);
+  const no = checkLevel(recorder.history(), "session");
+  assert.match(
+    levelWords(recorder.history(), no), /^keeps read your writes; .*\n {2}required: session, which doesn't/);
+  assert.strictEqual(levelWords(recorder.history(), checkLevel(recorder.history(), "own_writes")), "");
+  withProgram("REGKIT", "/nowhere/regkit", () => assert.throws(() => recorder.assertLevel("level", "session"),
+    /level.jsonl: doesn't keep session\n {2}{"atomic":"no".*\n\n\/nowhere\/regkit could not be run/));
+});
+
+test("no answer about a level", async () => {
+  const recorder = new Recorder({ folder });
+  await recorder.client("one").write("x", () => {});
+  const asserted = () => recorder.assertLevel("none", "session");
+  assert.throws(asserted, (error) => error instanceof NotKept
+    && error.message.includes("the history keeps session, but no read was completed"));
+  withProgram("REGLEVEL", "/nowhere/reglevel", () => assert.throws(asserted, (error) => (
+    error instanceof NotChecked && error.message.includes("no verdict: /nowhere/reglevel could not be "))));
+  assert.throws(() => recorder.assertLevel("none", "causal"), /"causal" is no level: it is one of atomic, /);
+  await recorder.client("one").cas("x", 1, 2, () => true);
+  assert.throws(asserted, (error) => error instanceof NotChecked
+    && error.message.includes("; reglevel takes reads and writes of distinct values"));
 });

@@ -2,7 +2,7 @@
 
     recorder = Recorder()
     ...
-    assert_atomic(recorder)
+    assert_atomic(recorder)  # or assert_level(recorder, "session")
 """
 import os
 import pathlib
@@ -12,11 +12,15 @@ from typing import Optional, Sequence, Union
 
 from regkit.base.statuses import ExitStatus
 from regkit.checker.bounds import bounds
-from regkit.checker.programs import Answer, NoChecker, decide, with_search_hint
+from regkit.checker.levels import DISTINCT, LEVELS, Levels, kept, levels_in
+from regkit.checker.programs import (Answer, NoChecker, decide, is_for_search, run_levels,
+                                     with_search_hint)
 from regkit.checker.report import read_report
 from regkit.evidence.evidence import Evidence, count_evidence
 from regkit.history.operations import read_history
+from regkit.judging.failures import program_failure
 from regkit.record import Recorder, RecordingError
+from regkit.words.levels import WORDS
 from regkit.words.phrases import counted
 
 Recorded = Union[Recorder, bytes, str, "os.PathLike[str]"]
@@ -26,8 +30,12 @@ class NotAtomic(AssertionError):
     """The history isn't atomic: no order of its operations explains what the clients saw."""
 
 
+class NotKept(AssertionError):
+    """Some register of the history doesn't keep the level that was asked for."""
+
+
 class TooLittleEvidence(AssertionError):
-    """The history is atomic, but too few reads were completed, or overlapped a write, to say much."""
+    """The history is as it should be, but too few reads were completed, or overlapped a write."""
 
 
 class NotChecked(Exception):
@@ -55,14 +63,30 @@ def assert_atomic(history: Recorded, *, least_reads: int = 1, least_overlaps: in
         raise NotChecked(f"{name}: {_without_verdict(data, answer)}")
     if answer.status == ExitStatus.NOT_ATOMIC:
         raise NotAtomic(_not_atomic(data, answer, path, options))
-    evidence = count_evidence(read_history(data))
-    reads, overlaps = evidence.completed_reads, evidence.overlapping_reads
-    for least, seen, what in [(least_reads, reads, "completed reads"),
-                              (least_overlaps, overlaps, "completed reads that overlap a write")]:
-        if seen < least:
-            raise TooLittleEvidence(f"{name}: linearizable, but that rests on {seen} {what}; the least is "
-                                    f"{least}")
-    return evidence
+    return _enough(f"{name}: linearizable", data, least_reads, least_overlaps)
+
+
+def assert_level(history: Recorded, level: str, *, least_reads: int = 1, least_overlaps: int = 0) -> Evidence:
+    """Raises AssertionError, in the words of `regkit levels`, unless each register of the history keeps a
+    level, with enough evidence.
+
+    The level is one of atomic, regular, session, own_writes, monotonic and sequential, which docs/levels.md
+    explains. The history, the evidence and the mistakes are as in `assert_atomic`. reglevel decides, which
+    takes the histories that regcheck takes. Raises NotChecked if it gives no answer, and NoChecker if it
+    isn't there."""
+    __tracebackhide__ = True
+    if level not in LEVELS:
+        raise ValueError(f"{level!r} is no level: it is one of {', '.join(LEVELS)}")
+    _trust(history, level)
+    data, path = _data(history), _path(history)
+    name = str(path) if path else "the history"
+    try:
+        words = _not_kept(data, level)
+    except NotChecked as error:
+        raise NotChecked(f"{name}: {error}") from error
+    if words:
+        raise NotKept(f"{words}\n\n{_how_to_see(_file_of(data, path))}")
+    return _enough(f"{name}: keeps {WORDS[level]}", data, least_reads, least_overlaps)
 
 
 def explanation(history: bytes, report: bytes, options: Sequence[str] = ()) -> str:
@@ -72,23 +96,37 @@ def explanation(history: bytes, report: bytes, options: Sequence[str] = ()) -> s
     return explain_text(history, report, options)
 
 
-def verdict(recorder: Recorder) -> str:
-    """What there is to say of a test's history, whatever it is."""
+def verdict(recorder: Recorder, level: Optional[str] = None) -> str:
+    """What there is to say of a test's history, whatever it is: of the level that the test asked for, if it
+    asked for one."""
     if recorder.mistakes:
         return f"the recorder was used wrongly: {recorder.mistakes[0]}"
     data = recorder.history()
     try:
-        answer = decide(data)
-    except NoChecker as error:
+        return _level_verdict(data, level) if level in LEVELS else _atomic_verdict(data)
+    except (NoChecker, NotChecked) as error:
         return str(error)
+
+
+def _atomic_verdict(data: bytes) -> str:
+    answer = decide(data)
     if answer.status == ExitStatus.ATOMIC:
-        evidence = count_evidence(read_history(data))
-        return (f"linearizable: {counted(evidence.operations, 'operation')}; "
-                f"{counted(evidence.completed_reads, 'completed read')}, "
-                f"{evidence.overlapping_reads:,} overlap a write")
+        return f"linearizable: {_evidence_in_words(data)}"
     if answer.status == ExitStatus.NOT_ATOMIC:
         return explanation(data, answer.report)
     return _without_verdict(data, answer)
+
+
+def _level_verdict(data: bytes, level: str) -> str:
+    """Raises NotChecked."""
+    return _not_kept(data, level) or f"keeps {WORDS[level]}: {_evidence_in_words(data)}"
+
+
+def _evidence_in_words(data: bytes) -> str:
+    evidence = count_evidence(read_history(data))
+    return (f"{counted(evidence.operations, 'operation')}; "
+            f"{counted(evidence.completed_reads, 'completed read')}, "
+            f"{evidence.overlapping_reads:,} overlap a write")
 
 
 def keep(recorder: Recorder, directory: "os.PathLike[str]", test: str) -> pathlib.Path:
@@ -99,11 +137,11 @@ def keep(recorder: Recorder, directory: "os.PathLike[str]", test: str) -> pathli
     return path
 
 
-def _trust(history: Recorded) -> None:
+def _trust(history: Recorded, level: Optional[str] = None) -> None:
     """Raises RecordingError if the recorder knows of a mistake: what was recorded around it may be wrong."""
     if not isinstance(history, Recorder):
         return
-    history.checked = True
+    history.checked, history.level = True, level
     mistakes = history.mistakes
     if mistakes:
         count = f", {len(mistakes)} times" if len(mistakes) > 1 else ""
@@ -122,6 +160,17 @@ def _path(history: Recorded) -> Optional[pathlib.Path]:
     return None if isinstance(history, bytes) else pathlib.Path(history)
 
 
+def _enough(said: str, data: bytes, least_reads: int, least_overlaps: int) -> Evidence:
+    """The evidence of a history of which something good is said. Raises TooLittleEvidence."""
+    evidence = count_evidence(read_history(data))
+    reads, overlaps = evidence.completed_reads, evidence.overlapping_reads
+    for least, seen, what in [(least_reads, reads, "completed reads"),
+                              (least_overlaps, overlaps, "completed reads that overlap a write")]:
+        if seen < least:
+            raise TooLittleEvidence(f"{said}, but that rests on {seen} {what}; the least is {least}")
+    return evidence
+
+
 def _without_verdict(data: bytes, answer: Answer) -> str:
     """Why there is no verdict."""
     if answer.status == ExitStatus.UNKNOWN:
@@ -133,13 +182,51 @@ def _without_verdict(data: bytes, answer: Answer) -> str:
 
 
 def _not_atomic(data: bytes, answer: Answer, path: Optional[pathlib.Path], options: Sequence[str]) -> str:
-    """The explanation, and how to see the history drawn. It goes to a file if it isn't in one."""
-    if path is None:
-        handle, name = tempfile.mkstemp(prefix="regkit-", suffix=".jsonl")
-        with os.fdopen(handle, "wb") as file:
-            file.write(data)
-        path = pathlib.Path(name)
+    """The explanation, and how to see the history drawn."""
     report = read_report(answer.report)
     return (f"not linearizable: {len(report.faulty):,} of {counted(len(report.rows), 'register')}\n\n"
-            f"{explanation(data, answer.report, options)}\n\n"
-            f"to see it: {' '.join(['python3 -m regkit draw', *options])} {path} -o fault.html")
+            f"{explanation(data, answer.report, options)}\n\n{_how_to_see(_file_of(data, path), options)}")
+
+
+def _file_of(data: bytes, path: Optional[pathlib.Path]) -> pathlib.Path:
+    """The history's file. It goes to one if it isn't in one."""
+    if path is not None:
+        return path
+    handle, name = tempfile.mkstemp(prefix="regkit-", suffix=".jsonl")
+    with os.fdopen(handle, "wb") as file:
+        file.write(data)
+    return pathlib.Path(name)
+
+
+def _how_to_see(path: pathlib.Path, options: Sequence[str] = ()) -> str:
+    return f"to see it: {' '.join(['python3 -m regkit draw', *options])} {path} -o fault.html"
+
+
+def _not_kept(data: bytes, level: str) -> str:
+    """Why a history doesn't keep a level, as `regkit levels` says it; empty if it does. Raises NotChecked."""
+    answer = run_levels(data, ["--stale", "--require", level])
+    if answer.status not in (ExitStatus.ATOMIC, ExitStatus.NOT_ATOMIC):
+        raise NotChecked(_without_levels(data, answer))
+    try:
+        levels = levels_in(answer, level)
+        return _account(data, levels, level) if answer.status == ExitStatus.NOT_ATOMIC else ""
+    except (KeyError, TypeError, ValueError, IndexError) as error:
+        raise NotChecked(f"the answer of reglevel is wrong: {error}") from error
+
+
+def _without_levels(data: bytes, answer: Answer) -> str:
+    """Why there is no answer about a level."""
+    if answer.status != ExitStatus.REFUSED:
+        return program_failure(answer)
+    return f"{answer.refusal}; {DISTINCT}" if is_for_search(data, answer) else answer.refusal
+
+
+def _account(data: bytes, levels: Levels, level: str) -> str:
+    """What a history kept."""
+    from regkit.levels.account import account, heading, required  # only a test that fails needs these
+    from regkit.levels.subject import Places, Subject
+
+    history, summary = read_history(data), levels.summary
+    whole = heading(kept(summary), summary["operations"], summary["registers"])
+    subject = Subject(history, levels, Places(data, history))
+    return "\n".join([whole, required(levels, level), *account(subject)])

@@ -257,6 +257,17 @@ PYTEST_FILE = """
 """
 
 
+def run_pytest(directory: pathlib.Path, tests: str) -> str:
+    """What pytest writes of these tests, whose histories it keeps in a folder beside them."""
+    (directory / "test_it.py").write_text(textwrap.dedent(tests))
+    environment = {**os.environ, "REGCHECK": find_checker(), "PYTEST_DISABLE_PLUGIN_AUTOLOAD": "1",
+                   "PYTHONPATH": os.pathsep.join([str(PYTHON), os.environ.get("PYTHONPATH", "")])}
+    command = [sys.executable, "-m", "pytest", "-p", "regkit.pytest_plugin", "-p", "no:cacheprovider",
+               "-rA", "--color=no", "--regkit-keep", "kept", "test_it.py"]
+    return subprocess.run(command, cwd=directory, env=environment, capture_output=True, text=True,
+                          check=False).stdout
+
+
 class Plugin(unittest.TestCase):
     def test_the_module_needs_no_pytest(self) -> None:
         program = "import sys; sys.modules['pytest'] = None; import regkit.pytest_plugin"
@@ -268,15 +279,8 @@ class Plugin(unittest.TestCase):
     @unittest.skipUnless(importlib.util.find_spec("pytest"), "pytest isn't installed")
     def test_under_pytest(self) -> None:
         with tempfile.TemporaryDirectory() as directory:
-            (pathlib.Path(directory) / "test_it.py").write_text(textwrap.dedent(PYTEST_FILE))
-            environment = {**os.environ, "REGCHECK": find_checker(), "PYTEST_DISABLE_PLUGIN_AUTOLOAD": "1",
-                           "PYTHONPATH": os.pathsep.join([str(PYTHON), os.environ.get("PYTHONPATH", "")])}
-            command = [sys.executable, "-m", "pytest", "-p", "regkit.pytest_plugin", "-p", "no:cacheprovider",
-                       "-rA", "--color=no", "--regkit-keep", "kept", "test_it.py"]
-            ran = subprocess.run(command, cwd=directory, env=environment, capture_output=True, text=True,
-                                 check=False)
+            out = run_pytest(pathlib.Path(directory), PYTEST_FILE)
             kept = sorted(path.name for path in (pathlib.Path(directory) / "kept").iterdir())
-        out = ran.stdout
         for name, result in [("fine", "PASSED"), ("stale", "FAILED"), ("nothing", "FAILED"),
                              ("expected", "PASSED"), ("other", "FAILED"), ("without", "PASSED")]:
             self.assertIn(f"{result} test_it.py::test_{name}", out)

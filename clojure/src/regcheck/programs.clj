@@ -1,5 +1,5 @@
 (ns regcheck.programs
-  "Runs the programs regcheck, regsearch and regkit."
+  "Runs the programs regcheck, regsearch, reglevel and regkit."
   (:require [clojure.java.io :as io]
             [clojure.java.shell :as shell]
             [clojure.string :as str]
@@ -7,7 +7,8 @@
   (:import (java.io File IOException)))
 
 (def verdicts
-  "What :valid? is, by the exit status of regcheck, of regsearch and of `regkit explain`."
+  "What :valid? is, by the exit status of regcheck, of regsearch, of reglevel, and of `regkit explain` and
+  `regkit levels`."
   {0 true, 1 false, 6 :unknown})
 
 (def ^:private refused "Their exit status for what isn't a history to them." 2)
@@ -52,6 +53,11 @@
   [opts]
   (companion opts (:regsearch opts) "REGSEARCH" "regsearch"))
 
+(defn reglevel
+  "The path of reglevel."
+  [opts]
+  (companion opts (:reglevel opts) "REGLEVEL" "reglevel"))
+
 (defn regkit
   "The path of regkit."
   [opts]
@@ -63,12 +69,19 @@
   (mapcat (fn [[option most]] (when most [option most]))
           {"--steps" (:steps opts) "--configurations" (:configurations opts)}))
 
-(defn run
-  "The :exit status, and what the program wrote to :out and :err."
-  [program & words]
-  (try (update (apply shell/sh program (map str words)) :err str/trim-newline)
+(defn run-in
+  "The :exit status, and what the program wrote to :out and :err. It gets more variables, and reads a text."
+  [variables in program & words]
+  (try (update (apply shell/sh program
+                      (concat (map str words) [:env (merge (into {} (System/getenv)) variables) :in in]))
+               :err str/trim-newline)
        (catch IOException error
          (unknown! program " could not be run: " (ex-message error)))))
+
+(defn run
+  "The same of a program that needs neither."
+  [program & words]
+  (apply run-in {} "" program words))
 
 (defn- must-search
   "The path of regsearch. Without it, why there is no verdict on what regcheck refused in these words."
@@ -86,3 +99,24 @@
       (let [words (concat (bounds opts) [history])]
         (assoc (apply run (must-search opts err) words) :analyzer :regsearch))
       (assoc ran :analyzer :regcheck))))
+
+(def levels
+  "The words for the levels, which are the keys of the report too."
+  #{"atomic" "regular" "session" "own_writes" "monotonic" "sequential"})
+
+(defn level
+  "The word for the level that is required, if one is. Throws if there is no such level."
+  [{level :require}]
+  (when (some? level)
+    (let [word (str/replace (name level) "-" "_")]
+      (when-not (levels word)
+        (throw (IllegalArgumentException.
+                (str level " is no level: it is one of " (str/join ", " (sort levels))))))
+      word)))
+
+(defn keeps
+  "What reglevel says of a history and the level that is required."
+  [opts history]
+  (let [{:keys [exit] :as ran} (run (reglevel opts) "--stale" "--require" (level opts) history)]
+    (cond-> (assoc ran :analyzer :reglevel)
+      (= refused exit) (update :err str "; reglevel takes reads and writes of distinct values"))))

@@ -6,6 +6,7 @@
             [jepsen.checker :as checker]
             [jepsen.independent :refer [tuple]]
             [regcheck.checker :as regcheck]
+            [regcheck.programs :as programs]
             [regcheck.toy :as toy])
   (:import (java.nio.file Files)
            (java.nio.file.attribute FileAttribute)))
@@ -173,6 +174,45 @@
     (let [{:keys [valid? cause]} (judged history)]
       (is (= :unknown valid?) words)
       (is (str/includes? (str cause) words)))))
+
+(def back
+  "A process reads the newer value, and then the older one."
+  (concat stale (map #(update % :index + 6) (ops [1 :invoke :read nil] [1 :ok :read 2]
+                                                 [1 :invoke :read nil] [1 :ok :read 1]))))
+
+(deftest levels
+  (doseq [[level history valid?] [[:session stale true] [:regular stale false] ["own_writes" back true]
+                                  [:own-writes back true] [:session back false] [:monotonic back false]
+                                  [:sequential back false] [:atomic stale false]]]
+    (is (= [valid? :reglevel] ((juxt :valid? :analyzer) (judged history {:require level} {}))) level))
+  (let [{:keys [completed-reads stale registers] :as result} (judged stale {:require :session} {})]
+    (is (= [:session 1 1 1] [(:require result) completed-reads stale registers]))
+    (is (= #{"regcheck.jsonl" "regcheck.report"} (::left result)))))
+
+(deftest a-level-that-is-not-kept
+  (let [{:keys [valid? faulty-registers back words] :as result} (judged back {:require :session} {})]
+    (is (= [false 1 1] [valid? faulty-registers back]))
+    (is (str/includes? words "  required: session, which doesn't hold of 1 of 1 register: \"x\"\n"))
+    (is (str/includes? (::report result) "\"session\":\"no\""))
+    (is (= #{"regcheck.jsonl" "regcheck.report" "regcheck.txt" "regcheck.html"} (::left result))))
+  (let [{:keys [valid? words]} (judged back {:require :session, :regkit "/nowhere/regkit"} {})]
+    (is (false? valid?))
+    (is (str/includes? words "/nowhere/regkit could not be run")))
+  (is (= #{"regcheck.jsonl" "regcheck.report" "regcheck.txt"}
+         (::left (judged back {:require :session, :regcheck "/nowhere/regcheck"
+                               :reglevel (programs/reglevel {}), :regkit (programs/regkit {})} {})))))
+
+(deftest a-level-without-a-verdict
+  (doseq [[words history opts]
+          [["the history keeps session, but no read" (ops [0 :invoke :write 1] [0 :ok :write 1]) {}]
+           ["reglevel takes reads and writes of distinct values" (contended :fail) {}]
+           ["/nowhere/reglevel could not be run" stale {:reglevel "/nowhere/reglevel"}]
+           ["the :f of" (ops [0 :invoke :append 1] [0 :ok :append 1]) {}]]]
+    (let [{:keys [valid? analyzer cause]} (judged history (assoc opts :require :session) {})]
+      (is (= [:unknown :reglevel] [valid? analyzer]) words)
+      (is (str/includes? (str cause) words))))
+  (is (thrown-with-msg? IllegalArgumentException #":causal is no level"
+                        (regcheck/checker {:require :causal}))))
 
 (deftest a-folder-is-no-program
   (let [folder (.toFile (Files/createTempDirectory "regcheck-" (make-array FileAttribute 0)))

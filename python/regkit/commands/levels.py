@@ -5,7 +5,7 @@ from typing import NamedTuple, Optional
 
 from regkit.base.garbage import many_objects
 from regkit.base.statuses import ExitStatus
-from regkit.checker.levels import LEVELS, Levels, kept, read_levels
+from regkit.checker.levels import DISTINCT, LEVELS, Levels, kept, levels_in
 from regkit.checker.programs import Answer, NoChecker, run_levels
 from regkit.commands.stopping import Stop, complain
 from regkit.explain.advice import advice
@@ -45,7 +45,6 @@ exit status, of several histories the first in the order 4, 3, 2, 1, 0:
   3  wrong command line
   4  input, memory, output or reglevel failed
 """
-REPEATS = "reglevel takes reads and writes of distinct values: let the n-th write of a register write n"
 
 
 class Found(NamedTuple):
@@ -76,7 +75,7 @@ def answered(data: bytes, level: Optional[str]) -> Found:
 
 def refused(found: Found, name: str) -> Stop:
     refusal = found.answer.refusal
-    hint = REPEATS if "value already written" in refusal else advice(found.history, refusal, name)
+    hint = DISTINCT if "value already written" in refusal else advice(found.history, refusal, name)
     return Stop(ExitStatus.REFUSED, f"refused: {refusal}", hint)
 
 
@@ -88,14 +87,9 @@ def report_in(found: Found, name: str, level: Optional[str]) -> Levels:
     if not answer.decided:
         raise Stop(ExitStatus.FAILED, program_failure(answer))
     try:
-        levels = read_levels(answer.report)
+        return levels_in(answer, level or "atomic")
     except (ValueError, KeyError) as error:
         raise Stop(ExitStatus.FAILED, f"the answer of reglevel is wrong: {error}") from error
-    due = ExitStatus.ATOMIC if (level or "atomic") in kept(levels.summary) else ExitStatus.NOT_ATOMIC
-    if answer.status != due:
-        words = f"its exit status is {answer.status}, and by its report {int(due)}"
-        raise Stop(ExitStatus.FAILED, f"the answer of reglevel is wrong: {words}")
-    return levels
 
 
 def told_of(name: str, arguments: argparse.Namespace, progress: Progress) -> int:

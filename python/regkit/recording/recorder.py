@@ -23,6 +23,7 @@ class Recorder:
                  values_after: int = 0, clock: Optional[Clock] = None, progress: bool = False) -> None:
         self._journal = Journal(output, failures, prefix, values_after, clock)
         self.checked = False  # whether a test has looked at the verdict
+        self.level: Optional[str] = None  # that it asked for then, if not for linearizable
         self._progress = Progress(label_of=lambda: f"recording {self.counts}") if progress else None
         if self._progress is not None:
             self._progress.__enter__()

@@ -1,13 +1,12 @@
 //! Runs the programs in the place of the library.
 use crate::{
-    programs::{companion, complaint, find, missing, run, GAVE_UP, NOT_ATOMIC},
+    programs::{
+        companion, complaint, failure, find, missing, read, run, ATOMIC, GAVE_UP, NOT_ATOMIC,
+        REFUSED,
+    },
     Answer, Bounds, Error, Refusal, Verdict,
 };
-use std::{path::Path, process::Output};
-
-// Exit statuses beside those that `regkit explain` has too.
-const ATOMIC: Option<i32> = Some(0);
-const REFUSED: Option<i32> = Some(2);
+use std::path::Path;
 
 /// What regcheck says.
 pub fn ask(history: &[u8]) -> Result<Answer, Error> {
@@ -40,48 +39,4 @@ fn answer(program: &Path, words: Vec<String>, history: &[u8]) -> Result<Answer, 
         verdict,
         report: said.stdout,
     })
-}
-
-/// What is wrong if a program ends as it shouldn't.
-fn failure(program: &Path, said: &Output) -> String {
-    format!(
-        "{} ended with {}: {}",
-        program.display(),
-        said.status,
-        complaint(said)
-    )
-}
-
-/// Reads what a program said of a history that it refused.
-fn read(words: String) -> Refusal {
-    let of_line = words.strip_prefix("line ");
-    let line = of_line.and_then(|rest| rest.split(':').next()?.parse().ok());
-    let other = words
-        .rsplit_once(" at line ")
-        .and_then(|(_, other)| other.parse().ok());
-    Refusal {
-        number: None,
-        line,
-        other: line.and(other),
-        words,
-    }
-}
-
-#[cfg(test)]
-mod tests {
-    use super::read;
-
-    #[test]
-    fn the_lines_of_a_refusal_are_read() {
-        let rows = [
-            ("line 3: why", Some(3), None),
-            ("line 12: why at line 7", Some(12), Some(7)),
-            ("why", None, None),
-        ];
-        for (words, line, other) in rows {
-            let refusal = read(words.to_owned());
-            assert_eq!((refusal.line, refusal.other), (line, other), "{words}");
-            assert_eq!(refusal.words, words);
-        }
-    }
 }

@@ -8,7 +8,7 @@ pub enum Error {
     Refused(Refusal),
     /// Memory ran out in the library. A program says so in words.
     NoMemory,
-    /// The program couldn't be run, or said what no refusal is. The library never says this.
+    /// A program couldn't be run, or said what no refusal is. The library never says this.
     Program(String),
 }
 
@@ -45,6 +45,8 @@ pub enum Trouble {
     Mistake(String),
     /// No order of the operations explains what the clients saw, or too little was read to say so.
     NotLinearizable(String),
+    /// Some register doesn't keep the level, or too little was read to say so.
+    NotKept(String),
     /// The search for an order gave up at a bound. The words say what to do.
     Unknown(String),
     /// The checker gave no verdict.
@@ -55,7 +57,9 @@ impl fmt::Display for Trouble {
     fn fmt(&self, to: &mut fmt::Formatter<'_>) -> fmt::Result {
         match self {
             Trouble::Mistake(words) => write!(to, "the recorder was used wrongly: {words}"),
-            Trouble::NotLinearizable(words) | Trouble::Unknown(words) => to.write_str(words),
+            Trouble::NotLinearizable(words) | Trouble::NotKept(words) | Trouble::Unknown(words) => {
+                to.write_str(words)
+            }
             Trouble::NotChecked(words) => write!(to, "no verdict: {words}"),
         }
     }

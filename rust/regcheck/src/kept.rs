@@ -1,8 +1,8 @@
 //! What a failed test leaves behind, and what it says.
 use crate::{
-    answer, programs,
-    programs::{complaint, regkit, run},
-    Answer, Bounds, Trouble, Verdict,
+    answer, level, programs,
+    programs::{complaint, regkit, run, run_with_levels},
+    Answer, Bounds, Level, LevelAnswer, Trouble, Verdict,
 };
 use std::{
     env, fs, io,
@@ -124,12 +124,49 @@ impl Files {
             self.report.display()
         );
         let told = self.explained(bounds);
-        match told.and_then(|words| Ok((words, self.draw()?))) {
+        match told.and_then(|words| Ok((words, self.draw(&self.report, b"")?))) {
             Ok((words, page)) => format!("{words}\n\n{kept}\n{page}"),
             Err(why) => {
                 let history = self.history.display();
                 format!("{history}: {}\n{why}\n{kept}", shown(answer))
             }
+        }
+    }
+
+    /// Why the kept history doesn't keep the level, in the words of regkit. It draws the page too.
+    fn explain_level(&self, answer: &LevelAnswer, history: &[u8]) -> String {
+        let kept = format!(
+            "history: {}\nreport: {}",
+            self.history.display(),
+            self.report.display()
+        );
+        let told = self.levels(answer);
+        match told.and_then(|words| Ok((words, self.draw_whole(history)?))) {
+            Ok((words, page)) => format!("{words}\n\n{kept}\n{page}"),
+            Err(why) => {
+                let history = self.history.display();
+                format!("{history}: {}\n{why}\n{kept}", lacking(answer))
+            }
+        }
+    }
+
+    /// The words of regkit for the kept history, by the reglevel that answered.
+    fn levels(&self, answer: &LevelAnswer) -> Result<String, String> {
+        let level = answer.level.key();
+        let words = ["levels", "--color", "never", "--require", level].map(AsRef::as_ref);
+        let words = words.into_iter().chain([self.history.as_os_str()]);
+        let said = run_with_levels(&regkit()?, words, &answer.program)?;
+        match said.status.code() {
+            programs::NOT_ATOMIC => Ok(String::from_utf8_lossy(&said.stdout).trim_end().to_owned()),
+            _ => Err(complaint(&said)),
+        }
+    }
+
+    /// Draws the kept history by the report of regcheck, since one of reglevel has no fault to draw.
+    fn draw_whole(&self, history: &[u8]) -> Result<String, String> {
+        match answer::check(history, Bounds::default()) {
+            Ok(answer) => self.draw("-".as_ref(), &answer.report),
+            Err(error) => Ok(format!("no page: {error}")),
         }
     }
 
@@ -151,15 +188,16 @@ impl Files {
         }
     }
 
-    fn draw(&self) -> Result<String, String> {
+    /// Draws the kept history by a report, which is given if it isn't in a file, and says where.
+    fn draw(&self, report: &Path, given: &[u8]) -> Result<String, String> {
         let words: [&Path; 5] = [
             "draw".as_ref(),
             &self.history,
-            &self.report,
+            report,
             "-o".as_ref(),
             &self.page,
         ];
-        let said = run(&regkit()?, words, b"")?;
+        let said = run(&regkit()?, words, given)?;
         Ok(if said.status.success() {
             format!("page: {}", self.page.display())
         } else {
@@ -183,6 +221,18 @@ fn shown(answer: &Answer) -> String {
     lines.fold(verdict.to_owned(), |words, line| words + "\n  " + line)
 }
 
+/// The lines of the report whose registers lack the level.
+fn lacking(answer: &LevelAnswer) -> String {
+    let (level, text) = (answer.level.key(), String::from_utf8_lossy(&answer.report));
+    let no = format!("\"{level}\":\"no\"");
+    let lines = text
+        .lines()
+        .filter(|line| line.contains("\"register\":") && line.contains(&no));
+    lines.fold(format!("doesn't keep {level}"), |words, line| {
+        words + "\n  " + line
+    })
+}
+
 /// Makes a folder that nobody else can read, and that wasn't there before.
 fn temporary_folder() -> Result<PathBuf, String> {
     static NEXT: AtomicU64 = AtomicU64::new(0);
@@ -199,11 +249,23 @@ fn temporary_folder() -> Result<PathBuf, String> {
 
 /// Why a history isn't linearizable, or what to do if nobody knows, in the words of regkit.
 pub fn words(history: &[u8], report: &[u8], bounds: Bounds) -> Result<String, String> {
+    told(history, Some(report), |files| files.explained(bounds))
+}
+
+/// Why a history doesn't keep a level, in the words of regkit.
+pub fn level_words(history: &[u8], answer: &LevelAnswer) -> Result<String, String> {
+    told(history, None, |files| files.levels(answer))
+}
+
+/// What is said of files that are gone with it, without the history's name.
+fn told(
+    history: &[u8],
+    report: Option<&[u8]>,
+    say: impl FnOnce(&Files) -> Result<String, String>,
+) -> Result<String, String> {
     let folder = temporary_folder()?;
     let files = Files::named(&folder.join("history"));
-    let told = files
-        .keep(history, Some(report))
-        .and_then(|()| files.explained(bounds));
+    let told = files.keep(history, report).and_then(|()| say(&files));
     let _ = fs::remove_dir_all(&folder);
     let named = format!("{}: ", files.history.display());
     told.map(|words| words.strip_prefix(&named).unwrap_or(&words).to_owned())
@@ -237,4 +299,32 @@ pub fn check(
                 + "\nbounds: give the recorder bounds with more steps or configurations",
         ),
     })
+}
+
+/// Says why a history doesn't keep a level with enough evidence, if it doesn't, and keeps it then.
+pub fn check_level(
+    keeper: &Keeper,
+    test: &str,
+    history: &[u8],
+    reads: u64,
+    wanted: Level,
+) -> Result<(), Trouble> {
+    let answer = level::check_level(history, wanted);
+    if matches!(&answer, Ok(answer) if answer.kept) && reads > 0 {
+        keeper.clear(test);
+        return Ok(());
+    }
+    let files = keeper.files(test);
+    let report = answer.as_ref().ok().map(|answer| &answer.report[..]);
+    files.keep(history, report).map_err(Trouble::NotChecked)?;
+    let place = format!("history: {}", files.history.display());
+    let answer = answer.map_err(|error| Trouble::NotChecked(format!("{error}\n\n{place}")))?;
+    Err(Trouble::NotKept(if answer.kept {
+        let level = wanted.key();
+        format!(
+            "too little evidence: the history keeps {level}, but no read was completed\n\n{place}"
+        )
+    } else {
+        files.explain_level(&answer, history)
+    }))
 }

@@ -16,13 +16,15 @@
 //! It links `libregcheck.a`, which has both checkers, and depends on nothing else. Without the feature
 //! `library` it runs the programs: the `regcheck` that the variable `REGCHECK` names, or the one on `PATH`;
 //! and for histories that regcheck refuses, above all those with compare-and-swap or repeated values, the
-//! `regsearch` that `REGSEARCH` names, the one beside `regcheck`, or the one on `PATH`.
+//! `regsearch` that `REGSEARCH` names, the one beside `regcheck`, or the one on `PATH`. Whether a history
+//! keeps a weaker [`Level`] says the program `reglevel` in either case.
 mod answer;
 #[cfg(not(feature = "library"))]
 mod by_program;
 mod clock;
 mod error;
 mod kept;
+mod level;
 #[cfg(feature = "library")]
 mod library;
 mod programs;
@@ -30,6 +32,7 @@ mod recorder;
 
 pub use answer::{check, Answer, Bounds, Verdict};
 pub use error::{Error, Refusal, Trouble};
+pub use level::{check_level, Level, LevelAnswer};
 pub use recorder::{Cas, Client, Delete, Read, Recorder, Swap, Write};
 
 #[cfg(not(feature = "library"))]

@@ -2,7 +2,7 @@
 use crate::{
     clock::now,
     kept::{self, Keeper},
-    Bounds, Trouble,
+    Bounds, Level, Trouble,
 };
 use std::{
     collections::HashMap,
@@ -174,13 +174,31 @@ impl Recorder {
     /// # Errors
     /// What is wrong, in words.
     pub fn check(&self, test: &str) -> Result<(), Trouble> {
-        let journal = locked(&self.journal);
-        if let Some(words) = journal.mistakes.first() {
-            return Err(Trouble::Mistake(words.clone()));
-        }
-        let (history, reads) = (journal.history.clone(), journal.reads);
-        drop(journal);
+        let (history, reads) = self.recorded()?;
         kept::check(&self.keeper, test, &history, reads, self.bounds)
+    }
+
+    /// Says why the history fails the test, unless each register keeps the level, a read was completed, and
+    /// the recorder was used rightly. It leaves the history, the report of reglevel and a page as `check`
+    /// does, with the words of `regkit levels`. The page shows why the history isn't linearizable.
+    /// [`check_level`] says which histories have an answer.
+    ///
+    /// [`check_level`]: crate::check_level
+    ///
+    /// # Errors
+    /// What is wrong, in words.
+    pub fn check_level(&self, test: &str, level: Level) -> Result<(), Trouble> {
+        let (history, reads) = self.recorded()?;
+        kept::check_level(&self.keeper, test, &history, reads, level)
+    }
+
+    /// The history, and how many reads were completed, unless the recorder was used wrongly.
+    fn recorded(&self) -> Result<(Vec<u8>, u64), Trouble> {
+        let journal = locked(&self.journal);
+        match journal.mistakes.first() {
+            Some(words) => Err(Trouble::Mistake(words.clone())),
+            None => Ok((journal.history.clone(), journal.reads)),
+        }
     }
 
     /// `check`, for a test that is to panic.
@@ -190,6 +208,17 @@ impl Recorder {
     #[track_caller]
     pub fn assert_linearizable(&self, test: &str) {
         if let Err(trouble) = self.check(test) {
+            panic!("{trouble}");
+        }
+    }
+
+    /// `check_level`, for a test that is to panic.
+    ///
+    /// # Panics
+    /// If something is wrong, with what it is.
+    #[track_caller]
+    pub fn assert_level(&self, test: &str, level: Level) {
+        if let Err(trouble) = self.check_level(test, level) {
             panic!("{trouble}");
         }
     }

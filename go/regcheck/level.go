@@ -1,0 +1,156 @@
+package regcheck
+
+import (
+	"fmt"
+	"os"
+	"path/filepath"
+	"strings"
+)
+
+// A Level is a guarantee that a store may give of each of its keys. docs/levels.md explains them. A session
+// is a client of a recorder until one of its calls stays pending.
+type Level string
+
+const (
+	Atomic     Level = "atomic"     // linearizable: each read gives the latest write
+	Regular    Level = "regular"    // no read misses a newer write that had ended before it began
+	Session    Level = "session"    // writes in the order of time; each session's operations in its own order
+	OwnWrites  Level = "own_writes" // writes in the order of time; no session misses a write of its own
+	Monotonic  Level = "monotonic"  // writes in the order of time; no session goes back to an older value
+	Sequential Level = "sequential" // each session in order; all agree on one order of the writes
+)
+
+// A LevelAnswer says whether each register of a history keeps a level, and why not.
+type LevelAnswer struct {
+	Level   Level
+	Kept    bool
+	History []byte // in the form of the programs
+	Report  []byte // that of reglevel
+
+	program string // the path of reglevel
+}
+
+// CheckLevel says whether each register of a history in the form of the programs keeps a level. It runs the
+// program reglevel, also where the library is linked: the one that REGLEVEL names, the one beside regcheck,
+// or the one on PATH. reglevel takes what regcheck takes: reads and writes, each value written once to a
+// register.
+//
+// The error says why there is no answer: it may be a *Refusal.
+func CheckLevel(history []byte, level Level) (LevelAnswer, error) {
+	answer := LevelAnswer{Level: level, History: history}
+	var err error
+	if answer.program, err = companion("REGLEVEL", "reglevel"); err != nil {
+		return answer, err
+	}
+	said, err := run(answer.program, history, "--stale", "--require", string(level))
+	if err != nil {
+		return answer, err
+	}
+	switch said.status {
+	case statusAtomic, statusNotAtomic:
+		answer.Kept, answer.Report = said.status == statusAtomic, said.output
+		return answer, nil
+	case statusRefused:
+		refusal := refusalOf(said.complaint)
+		return answer, fmt.Errorf("%w; reglevel takes reads and writes of distinct values", refusal)
+	}
+	return answer, said.failure(answer.program)
+}
+
+// Words says why a history doesn't keep the level, as `regkit levels` does. If it does, there is nothing to
+// say. The error says why there are no words.
+func (answer LevelAnswer) Words() (string, error) {
+	if answer.Report == nil || answer.Kept {
+		return "", nil
+	}
+	folder, err := os.MkdirTemp("", "regcheck-")
+	if err != nil {
+		return "", err
+	}
+	defer os.RemoveAll(folder)
+	files := filesOf(filepath.Join(folder, "history"))
+	if err := files.keep(answer.History, nil); err != nil {
+		return "", err
+	}
+	words, err := files.levels(answer)
+	return strings.TrimPrefix(words, files.history+": "), err
+}
+
+// RecordLevel gives a recorder whose history is checked when the test ends, as by AssertLevel.
+func RecordLevel(test TB, level Level) *Recorder {
+	test.Helper()
+	recorder := &Recorder{}
+	test.Cleanup(func() {
+		test.Helper()
+		recorder.AssertLevel(test, level)
+	})
+	return recorder
+}
+
+// AssertLevel fails the test unless each register of the history keeps the level, a read was completed, and
+// the recorder was used rightly. It says whether the test may go on.
+//
+// It says why in the words of `regkit levels`, and leaves the history, the report of reglevel and a page in
+// Folder, as Assert does. The page shows why the history isn't linearizable. CheckLevel says which histories
+// have an answer.
+func (recorder *Recorder) AssertLevel(test TB, level Level) bool {
+	test.Helper()
+	reads, keeper, ok := recorder.recorded(test)
+	if !ok {
+		return false
+	}
+	answer, err := CheckLevel(recorder.History(), level)
+	return assert(test, keeper, answer.finding(), err, reads)
+}
+
+func (answer LevelAnswer) finding() finding {
+	return finding{answer.History, answer.Report, answer.Kept, "keeps " + string(answer.Level),
+		func(files files) string { return files.explainLevel(answer) }}
+}
+
+// explainLevel says why the kept history doesn't keep the level, and has it drawn.
+func (files files) explainLevel(answer LevelAnswer) string {
+	kept := "history: " + files.history + "\nreport: " + files.report
+	words, err := files.levels(answer)
+	if err != nil {
+		return fmt.Sprintf("%s: %s\n%v\n%s", files.history, lacking(answer), err, kept)
+	}
+	return words + "\n\n" + kept + "\n" + files.drawWhole(answer.History)
+}
+
+// levels gives the words of regkit for the kept history, by the reglevel that answered.
+func (files files) levels(answer LevelAnswer) (string, error) {
+	path, err := regkit()
+	if err != nil {
+		return "", err
+	}
+	words := []string{"levels", "--color", "never", "--require", string(answer.Level), files.history}
+	said, err := runIn([]string{"REGLEVEL=" + answer.program}, path, nil, words...)
+	if err != nil {
+		return "", err
+	}
+	if said.status != statusNotAtomic {
+		return "", said.failure(path)
+	}
+	return strings.TrimRight(string(said.output), "\n"), nil
+}
+
+// drawWhole has the kept history drawn by the report of regcheck, since one of reglevel has no fault to draw.
+func (files files) drawWhole(history []byte) string {
+	_, report, err := checked(history)
+	if err != nil {
+		return "no page: " + err.Error()
+	}
+	return files.draw("-", report)
+}
+
+// lacking gives the lines of the report whose registers lack the level.
+func lacking(answer LevelAnswer) string {
+	lines := []string{"doesn't keep " + string(answer.Level)}
+	for _, line := range strings.Split(string(answer.Report), "\n") {
+		if strings.Contains(line, `"register":`) && strings.Contains(line, `"`+string(answer.Level)+`":"no"`) {
+			lines = append(lines, "  "+line)
+		}
+	}
+	return strings.Join(lines, "\n")
+}
