@@ -76,9 +76,14 @@ def verdict(report: Report, title: str) -> str:
     kind, mark = ("yes", TICK) if report.atomic else ("no", CROSS)
     if is_unknown(report):
         kind, mark = "unknown", QUESTION
-    icon = tag("svg", tag("circle", cx=12, cy=12, r=11) + tag("path", d=mark), viewBox="0 0 24 24",
+    return tag("h1", f"{verdict_icon(mark)}{capital(verdict_word(report))}: {name(title)}",
+               class_=f"verdict {kind}")
+
+
+def verdict_icon(mark: str) -> str:
+    """A mark in a disc, before the verdict."""
+    return tag("svg", tag("circle", cx=12, cy=12, r=11) + tag("path", d=mark), viewBox="0 0 24 24",
                aria_hidden="true")
-    return tag("h1", f"{icon}{capital(verdict_word(report))}: {name(title)}", class_=f"verdict {kind}")
 
 
 def summary(history: History, report: Report) -> str:
