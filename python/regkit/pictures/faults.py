@@ -9,6 +9,7 @@ from regkit.drawing.style import CLUSTERS
 from regkit.drawing.svg import tag
 from regkit.drawing.text import name, words
 from regkit.explain import sentences
+from regkit.explain.causes import StalePair
 from regkit.explain.shrinking import ShrinkSettings
 from regkit.levels.faults import steps
 from regkit.levels.subject import Subject
@@ -18,8 +19,8 @@ from regkit.words.phrases import capital, counted
 
 MOST_ARROWS = 12  # of a picture
 STEP = "step"  # the class of all arrows where they are more than there are colours
-GAP = ("The register would be linearizable if reads might be up to {age} old, and not if they must be younger. "
-       "That is its gap.")
+GAP = ("The register would be linearizable if reads might be up to {age} old, and not if they must be "
+       "younger. That is its gap.")
 
 
 class Section(NamedTuple):
@@ -60,6 +61,8 @@ def marks_of(subject: Subject, row: Row, reason: Reason) -> Optional[Marks]:
     if len(fault["steps"]) > MOST_ARROWS:
         return None
     marks = marks_of_cycle(subject, row, fault)
+    if "regular" in reason.levels:
+        marks.pair = StalePair(*marks.arrows[-1][:2])  # the newer write, and the read that missed it
     if reason.gap is not None:
         calls = subject.history.registers[row["register"]]
         marks.zones = [zone_of(subject.operation(row, line), calls, cluster)

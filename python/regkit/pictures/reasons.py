@@ -1,5 +1,5 @@
-"""Why a register didn't keep a level, as a cycle of writes that each have to come before the next, or as a read
-of a value that nobody had written yet."""
+"""Why a register didn't keep a level, as a cycle of writes that each have to come before the next, or as a
+read of a value that nobody had written yet."""
 import json
 from typing import Any, NamedTuple, Optional
 

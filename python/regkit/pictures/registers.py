@@ -41,4 +41,5 @@ def table(levels: Levels) -> str:
     rest = len(broken) - MOST
     more = f"{counted(rest, 'more register')} broke a level." if rest > 0 else ""
     shown = tag("div", tag("table", head + "".join(body), class_="moments registers"), class_="wide")
-    return tag("h3", "The registers that broke a level") + shown + (tag("p", more, class_="note") if more else "")
+    note = tag("p", more, class_="note") if more else ""
+    return tag("h2", "The registers that broke a level") + shown + note

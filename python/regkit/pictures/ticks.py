@@ -18,7 +18,9 @@ def round_step(length: int, most: int) -> int:
 
 
 def exact(nanoseconds: int) -> str:
-    """`200 ms`, `1.5 s`: as short as the number is round."""
+    """`200 ms`, `1.5 s`, `0`: as short as the number is round."""
+    if not nanoseconds:
+        return "0"
     unit, size = next(((unit, size) for unit, size in UNITS if nanoseconds >= size), UNITS[-1])
     return f"{nanoseconds / size:.6g} {unit}"
 

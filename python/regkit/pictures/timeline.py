@@ -60,8 +60,10 @@ class Timeline:
             if row.stale[part]:
                 height = max(LEAST, (ROW - BASE - 8) * row.stale[part] / self.most)
                 said = f"{row.stale[part]:,} of {counted(row.reads[part], 'read')} stale, {self.span(part)}"
-                bar = tag("rect", x=left + 0.5, y=base - height, width=max(1.0, self.width - 1), height=height)
-                parts.append(tag("g", bar + svg.title(f"{capital(self.labels[place])}: {said}"), class_="old"))
+                bar = tag("rect", x=left + 0.5, y=base - height, width=max(1.0, self.width - 1),
+                          height=height)
+                title = svg.title(f"{capital(self.labels[place])}: {said}")
+                parts.append(tag("g", bar + title, class_="old"))
         rule = f"M {svg.number(self.gutter)} {svg.number(base)} H {svg.number(PAGE_WIDTH - RIGHT)}"
         return [tag("path", class_="rule", d=rule), tag("path", class_="reads", d=" ".join(strips)), *parts]
 
@@ -81,7 +83,8 @@ class Timeline:
         for place, row in enumerate(self.bursts.rows):
             parts.append(text(self.gutter - 12, TOP + ROW * (place + 1) - BASE, self.labels[place], "gutter"))
             parts += self.bars(place, row)
-        return figure(parts + self.axis(), Size(PAGE_WIDTH, self.bottom + BELOW), self.label(), self.caption())
+        size = Size(PAGE_WIDTH, self.bottom + BELOW)
+        return figure(parts + self.axis(), size, self.label(), self.caption())
 
     def label(self) -> str:
         said = [f"{name} {sum(row.stale.values()):,} of {counted(sum(row.reads.values()), 'read')}"
