@@ -1,6 +1,5 @@
 """When stale reads came: a row for each node or client, and a bar for each part of the run that has some."""
 from regkit.drawing import svg
-from regkit.drawing.axis import DIGIT
 from regkit.drawing.bars import LETTER
 from regkit.drawing.figure import PAGE_WIDTH
 from regkit.drawing.svg import tag, text
