@@ -16,7 +16,7 @@ from regkit.pictures.bursts import MOST_ROWS, Extent, bursts_of, extent_of
 from regkit.pictures.faults import write_of_stale
 from regkit.pictures.histogram import Histogram, histogram_of
 from regkit.pictures.page import levels_page, title_of
-from regkit.pictures.reasons import reasons_of
+from regkit.pictures.reasons import from_first_write, reasons_of
 from regkit.pictures.registers import table
 from regkit.pictures.ticks import round_step, shown
 from regkit.pictures.timeline import timeline
@@ -195,6 +195,17 @@ class Reasons(unittest.TestCase):
                      for reason in reasons_of(row, write_of_stale(subject, row))]
             self.assertEqual(found, expected, name)
 
+    def test_a_cycle_is_shown_once_wherever_it_begins(self) -> None:
+        subject = of_example("read_goes_back")
+        row = subject.levels.rows[0]
+        turned = {"kind": "cycle", "steps": [[5, 7], [1, 3]], "writes": [3, 1]}
+        row["monotonic_fault"] = turned
+        found = reasons_of(row, write_of_stale(subject, row))
+        self.assertEqual([reason.levels for reason in found],
+                         [["atomic", "regular"], ["session", "monotonic", "sequential"]])
+        self.assertEqual(found[1].fault, {"kind": "cycle", "steps": [[1, 3], [5, 7]], "writes": [1, 3]})
+        self.assertEqual(from_first_write({"kind": "unwritten", "read": 3}), {"kind": "unwritten", "read": 3})
+
     def test_the_write_that_a_stale_read_gave(self) -> None:
         subject = of_example("order_against_time")
         self.assertEqual(write_of_stale(subject, subject.levels.rows[0]), 1)
@@ -218,13 +229,27 @@ class Reasons(unittest.TestCase):
         self.assertIn("gave a value that nobody wrote to this register", words_of(page))
         self.assertEqual((page.count("<figure>"), page.count("<h3>")), (2, 1))
 
-    def cycle(self, size: int) -> str:
-        """A page whose register has a cycle of some writes."""
-        writes = list(range(1, 2 * size, 2))
-        fault = {"kind": "cycle", "writes": writes, "steps": list(zip(writes, writes[1:] + writes[:1]))}
-        events = [line for value in range(1, size + 1) for line in (write(1, value), reply(1))]
+    def cycle(self, size: int, turn: int = 1) -> str:
+        """A page whose register has a cycle of some writes, which are open together. After them, each value is
+        read before the next one by a process of its own."""
+        values = list(range(1, size + 1))
+        events = [write(value, value) for value in values] + [reply(value) for value in values]
+        steps = []
+        for value in values:
+            steps.append([len(events) + 1, len(events) + 3][::turn])
+            events += [read(size + value), gave(size + value, value)]
+            events += [read(size + value), gave(size + value, value % size + 1)]
+        fault = {"kind": "cycle", "writes": values, "steps": steps}
         levels = {"own_writes": "yes", "monotonic": "yes", "session": "yes"}
         return levels_page(subject_of(events, {"register": "x", "sequential_fault": fault, **levels}), "h")
+
+    def test_steps_that_the_history_doesnt_have(self) -> None:
+        with self.assertRaisesRegex(ValueError, "the step from line 7 to line 5"):
+            self.cycle(2, -1)
+        gap = {"events": 1, "first": [1, 3], "second": [5, 3], "writes": [1, 3]}
+        events = [write(1, 1), reply(1), write(1, 2), reply(1), read(2), gave(2, 1)]
+        with self.assertRaisesRegex(ValueError, "the step from line 5 to line 3"):
+            levels_page(subject_of(events, row_of([], gap=gap)), "h")
 
     def test_numbered_steps(self) -> None:
         """Each arrow has its number, with the same colour before its sentence."""
@@ -271,6 +296,10 @@ class Ages(unittest.TestCase):
 
     def test_one_age_without_a_time(self) -> None:
         self.assertFalse(histogram_of([Age(9, 10**9), Age(2, None)]).is_time)
+
+    def test_a_read_that_isnt_old(self) -> None:
+        with self.assertRaises(ValueError):
+            histogram_of([Age(3, None), Age(0, None)])
 
     def test_every_age_is_counted(self) -> None:
         for spans in ([1], [1, 10**6], list(range(1, 999)), [1] * 50 + [10**9, 5 * 10**9]):

@@ -9,8 +9,9 @@ from regkit.drawing.style import CLUSTERS
 from regkit.drawing.svg import tag
 from regkit.drawing.text import name, words
 from regkit.explain import sentences
-from regkit.explain.causes import StalePair
+from regkit.explain.causes import StalePair, ended_before
 from regkit.explain.shrinking import ShrinkSettings
+from regkit.history.operations import Operation
 from regkit.levels.faults import steps
 from regkit.levels.subject import Subject
 from regkit.pictures.reasons import Fault, Reason, reasons_of
@@ -37,6 +38,14 @@ def clusters_of(fault: Fault) -> list[str]:
     return list(CLUSTERS[:size]) if size <= len(CLUSTERS) else [STEP] * size
 
 
+def must_lead(before: Operation, after: Operation, writes: tuple[Operation, Operation]) -> None:
+    """Raises ValueError if a step doesn't lead from one write to the other, or the history doesn't bear it
+    out: then the report is of another one."""
+    values = before.value, after.value
+    if values != (writes[0].value, writes[1].value) or not ended_before(before, after):
+        raise ValueError(f"the step from line {before.line} to line {after.line}")
+
+
 def marks_of_cycle(subject: Subject, row: Row, fault: Fault) -> Marks:
     """Arrows from each write of a cycle to the next, and the operations that they join."""
     marks, clusters = Marks(), clusters_of(fault)
@@ -47,6 +56,7 @@ def marks_of_cycle(subject: Subject, row: Row, fault: Fault) -> Marks:
         marks.name(write)
     for number, (step, cluster) in enumerate(zip(fault["steps"], clusters), 1):
         before, after = (subject.operation(row, line) for line in step)
+        must_lead(before, after, (writes[number - 1], writes[number % len(writes)]))
         marks.arrows.append(Arrow(before, after, cluster, number))
         marks.name(before)
         marks.name(after)

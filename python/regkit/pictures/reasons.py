@@ -21,6 +21,16 @@ def cycle(writes: list[int], *steps: list[int]) -> Fault:
     return {"kind": "cycle", "steps": list(steps), "writes": writes}
 
 
+def from_first_write(fault: Fault) -> Fault:
+    """A cycle from the write on that was called first, so that the same cycle is told once. Other faults stay
+    as they are."""
+    if fault["kind"] != "cycle":
+        return fault
+    writes, steps = fault["writes"], fault["steps"]
+    place = writes.index(min(writes))
+    return cycle(writes[place:] + writes[:place], *steps[place:], *steps[:place])
+
+
 def first_stale(row: Row, seen_write: int) -> Fault:
     """The first stale read as a cycle: what had its value ended before the newer write began, and this ended
     before the read began."""
@@ -54,6 +64,7 @@ def reasons_of(row: Row, write_of_stale: Optional[int]) -> list[Reason]:
     for level in LEVELS:
         fault = None if level in kept(row) else fault_of(row, level, write_of_stale)
         if fault is not None:
+            fault = from_first_write(fault)
             gap = row["gap"]["events"] if level == "atomic" and "gap" in row else None
             found.setdefault(json.dumps(fault, sort_keys=True), Reason(fault, [], gap)).levels.append(level)
     return list(found.values())
