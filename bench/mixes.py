@@ -1,7 +1,8 @@
 """The operations of the histories of register_histories.py: when each takes place, and what its lines say.
 
 A mix is the operations of a workload, each as often as it is called. `create` deletes and puts if absent, and
-`kv` does all that a key-value store does to one key."""
+`kv` does all that a key-value store does to one key. Those of `append`, `versions` and `incr` have lines once
+they are converted (converted.py)."""
 from typing import Callable, Dict, List, NamedTuple, Optional
 
 Value = Optional[int]
@@ -15,6 +16,12 @@ class Operation(NamedTuple):
     asked: Callable[[Value, Value], str]  # the members of its call, by what it asks for and what it writes
     told: Callable[[Value, bool], str]  # those of its reply, by what it finds and whether it took place
     clears: bool = False  # whether it writes null
+    left: Callable[[Value, Value], Value] = lambda _, new: new  # by what it finds and what it writes
+
+    @property
+    def looks(self) -> bool:
+        """Whether a store that is at fault may do it to an old value."""
+        return self.word in ("cas", "append", "put", "incr")
 
 
 def shown(value: Value) -> str:
@@ -60,6 +67,10 @@ OPERATIONS: Dict[str, Operation] = {
     "delete": Operation("delete", always, nothing, nothing, clears=True),
     "delete-found": Operation("delete", always, nothing, lambda found, _: (
         f',"found":{"false" if found is None else "true"}'), clears=True),
+    # These aren't operations of a history. A value is the put or the append that made it, or a count.
+    "append": Operation("append", always, nothing, nothing),
+    "put": Operation("put", lambda found, asked: found == asked, nothing, nothing),
+    "incr": Operation("incr", always, nothing, nothing, left=lambda found, _: (found or 0) + 1),
 }
 
 # How often of ten and of twenty calls each operation is called.
@@ -67,5 +78,9 @@ MIXES: Dict[str, List[str]] = {
     "create": 3 * ["read"] + 3 * ["delete-found"] + ["delete"] + 3 * ["create"],
     "kv": (6 * ["read"] + 2 * ["write"] + ["delete"] + 2 * ["delete-found"] + 3 * ["create"] + 2 * ["replace"]
            + ["swap", "cas-old", "clear", "cas"]),
+    "append": ["read", "append"],
+    "versions": ["read", "put"],
+    "incr": 3 * ["read"] + 7 * ["incr"],
 }
+CONVERTED = frozenset({"append", "versions", "incr"})  # whose histories are those of conversions
 NULL_ASKED = 6  # one cas of these asks for null, in a mix

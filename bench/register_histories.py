@@ -5,11 +5,13 @@
     bench/register_histories.py --events 100000 --cas 1/3 --crashed 100 --kind stale --seed 7
     bench/register_histories.py --keys 5 --values 100 --processes 60 --shape bursts --kind split
     bench/register_histories.py --mix kv --crashed 100
+    bench/register_histories.py --mix append --crashed 100
 
 A store is simulated whose clients call at random. A call takes effect at a random moment before its reply.
 The calls are reads and writes, as many of each, or with `--cas 1/3` reads, writes and cas. With
 `--mix create` they are reads, deletes and puts if absent, and with `--mix kv` all that a key-value store does
-to one key. By default they are of one register and write five values.
+to one key. With `--mix append`, `versions` and `incr` they are reads and appends, puts by version or
+increments with results, as a conversion has them. By default they are of one register and write five values.
 
 Crashed calls are changes, spread evenly over the history. Nobody answers them, and their clients go
 on under new numbers. A third of them takes effect at once, a third some time later, and a third never.
@@ -41,7 +43,8 @@ import random
 import sys
 from typing import Deque, Dict, Iterator, List, NamedTuple, Optional, Type
 
-from mixes import MIXES, NULL_ASKED, OPERATIONS, Value
+import converted
+from mixes import CONVERTED, MIXES, NULL_ASKED, OPERATIONS, Value
 
 VALUES = 5
 EVENTS_OF_EARLY = 2  # the write of that value at the end, for the kind early
@@ -114,6 +117,10 @@ class Call:
     def takes_place(self) -> bool:
         return self.operation.takes_place(self.found, self.expected)
 
+    def left(self) -> Value:
+        """What it leaves, if it takes place."""
+        return self.operation.left(self.found, self.new)
+
 
 class Store:
     """A register that makes no mistake."""
@@ -136,7 +143,7 @@ class Store:
         call.is_done = True
         call.found = self.seen_by(call)
         if call.takes_place():
-            self.value = call.new
+            self.value = call.left()
 
 
 class RememberingStore(Store):
@@ -165,7 +172,7 @@ class LostStore(RememberingStore):
     operations = LOST_BY
 
     def seen_by(self, call: Call) -> Value:
-        is_stale = self.is_second_half and call.operation.word == "cas" and self.chance.one_in(LOST_CAS)
+        is_stale = self.is_second_half and call.operation.looks and self.chance.one_in(LOST_CAS)
         return self.past[0] if is_stale else self.value
 
 
@@ -366,8 +373,52 @@ class Run:
         return self.chance.one_in(2)
 
 
+class NotingClient(Client):
+    """Notes what is said in place of a line, and knows the value that it saw last."""
+
+    def __init__(self, process: int, said: List[converted.Said]) -> None:
+        super().__init__(process)
+        self.said = said
+        self.seen: Value = None
+
+    def called(self, call: Call) -> str:
+        self.call = call
+        self.said.append(converted.Said(self.process, call, True))
+        return ""
+
+    def answered(self, call: Call) -> str:
+        self.call = None
+        self.said.append(converted.Said(self.process, call, False))
+        self.seen = call.left() if call.takes_place() else call.found
+        return ""
+
+
+class ConvertedRun(Run):
+    """The same with the operations of a mix that is converted."""
+
+    def __init__(self, cell: Cell, seed: int) -> None:
+        super().__init__(cell, seed)
+        self.said: List[converted.Said] = []
+        self.noting = [NotingClient(number, self.said) for number in range(cell.processes)]
+        self.clients = [*self.noting]
+
+    def next_call(self, client: int) -> Call:
+        call = super().next_call(client)
+        call.expected, call.new = self.noting[client].seen, self.called
+        return call
+
+    def lines(self) -> Iterator[str]:
+        for _ in super().lines():
+            pass
+        yield from converted.lines(self.cell.mix, self.said)
+
+
 def complaint(cell: Cell) -> Optional[str]:
     """Why there is no such history."""
+    if cell.mix in CONVERTED and (cell.kind not in ("right", "stale", "lost") or cell.keys > 1):
+        return f"a history of {cell.mix} is of one key, and right, stale or lost"
+    if cell.mix == "incr" and cell.crashed:
+        return "a conversion refuses increments of unknown outcome"
     least = EVENTS_OF_EARLY if cell.kind == "early" else 0
     if cell.kind == "lost" and cell.cas == "0" and not cell.mix:
         return "a history of the kind lost needs --cas 1/3 or a mix"
@@ -386,7 +437,7 @@ def history(cell: Cell, seed: int) -> Iterator[str]:
     why = complaint(cell)
     if why:
         raise ValueError(why)
-    return Run(cell, seed).lines()
+    return (ConvertedRun if cell.mix in CONVERTED else Run)(cell, seed).lines()
 
 
 def main() -> int:

@@ -12,10 +12,11 @@ from functools import partial
 from typing import Any, Dict, NamedTuple, Optional, Tuple
 
 from harness import (KEYS, LINEARIZABLE, NOT_LINEARIZABLE, PATIENCE, Connection, Lab, Scenario, Server,
-                     Unanswered, User, clients, free_ports, main)
+                     Several, Unanswered, User, clients, five_users, free_ports, main)
 from regkit.record import Recorder  # harness has found it
 
 PROGRAM = shutil.which("etcd")
+DELAY = 0.05  # seconds that links between nodes take, where clients read from any node
 
 
 def encoded(text: str) -> str:
@@ -87,10 +88,10 @@ class Node(NamedTuple):
 class Cluster:
     """Three nodes, which reach each other by links of a network alone."""
 
-    def __init__(self, lab: Lab) -> None:
+    def __init__(self, lab: Lab, delay: float = 0) -> None:
         self.network = lab.network()
         ports = free_ports(6)
-        self.nodes = [Node(f"etcd-{number}", port, peer, f"http://127.0.0.1:{self.network.link(peer)}")
+        self.nodes = [Node(f"etcd-{number}", port, peer, f"http://127.0.0.1:{self.network.link(peer, delay)}")
                       for number, port, peer in zip((1, 2, 3), ports[:3], ports[3:])]
         members = ",".join(f"{node.name}={node.link}" for node in self.nodes)
         for node, server in [(node, node.start(lab, members)) for node in self.nodes]:
@@ -132,10 +133,24 @@ def serializable(lab: Lab, recorder: Recorder, seconds: float) -> None:
     cut_off(lab, recorder, seconds, serializable=True)
 
 
+def roaming(lab: Lab, recorder: Recorder, seconds: float) -> None:
+    """What a node has, the others have only after the time that their links take."""
+    cluster = Cluster(lab, DELAY)
+
+    def connect() -> Several:
+        nodes = [node.connect(serializable=True) for node in cluster.nodes]
+        return Several(nodes, nodes)
+
+    with clients(recorder, five_users(connect, connect)) as load:
+        load.go_on(seconds)
+
+
 SCENARIOS = [
     Scenario("linearizable", "reads as they are by default; a node is cut off for a while", LINEARIZABLE,
              linearizable),
-    Scenario("serializable", "the same with serializable reads", NOT_LINEARIZABLE, serializable)]
+    Scenario("serializable", "the same with serializable reads", NOT_LINEARIZABLE, serializable),
+    Scenario("roaming", "each serializable read goes to any node, and the links are slow", NOT_LINEARIZABLE,
+             roaming)]
 
 if __name__ == "__main__":
     sys.exit(main("etcd", __doc__, "etcd-server", [PROGRAM], SCENARIOS))

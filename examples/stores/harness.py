@@ -70,6 +70,9 @@ class Connection:
 
     node = ""  # the server that it asks, if there are several
 
+    def turn(self, writes: bool) -> None:
+        """Comes before each call. A connection to several servers chooses one here, and names it."""
+
     def read(self, key: str) -> object:
         raise NotImplementedError
 
@@ -78,6 +81,28 @@ class Connection:
 
     def close(self) -> None:
         raise NotImplementedError
+
+
+class Several(Connection):
+    """Connections of which each call takes one by chance: some are for writes, some for reads."""
+
+    def __init__(self, writers: Sequence[Connection], readers: Sequence[Connection]) -> None:
+        self.writers, self.readers = writers, readers
+        self.turn(writes=False)
+
+    def turn(self, writes: bool) -> None:
+        self.current = random.choice(self.writers if writes else self.readers)
+        self.node = self.current.node
+
+    def read(self, key: str) -> object:
+        return self.current.read(key)
+
+    def write(self, key: str, value: int) -> None:
+        self.current.write(key, value)
+
+    def close(self) -> None:
+        for each in (*self.writers, *self.readers):
+            each.close()
 
 
 class User(NamedTuple):
@@ -151,10 +176,10 @@ class Network:
         self._open: List[Tuple[int, bytes, List[asyncio.StreamWriter]]] = []
         self._servers: List[asyncio.AbstractServer] = []
 
-    def link(self, port: int) -> int:
-        """A new port that leads to the port of a server."""
+    def link(self, port: int, delay: float = 0) -> int:
+        """A new port that leads to the port of a server. What goes there or comes back waits some seconds."""
         async def listen() -> int:
-            server = await asyncio.start_server(lambda *ends: self._carry(port, *ends), "127.0.0.1", 0)
+            server = await asyncio.start_server(lambda *ends: self._carry(port, delay, *ends), "127.0.0.1", 0)
             self._servers.append(server)
             return int(server.sockets[0].getsockname()[1])
         return asyncio.run_coroutine_threadsafe(listen(), self._loop).result()
@@ -172,7 +197,8 @@ class Network:
     def heal(self) -> None:
         self.cut(lambda port, head: False)
 
-    async def _carry(self, port: int, reader: asyncio.StreamReader, writer: asyncio.StreamWriter) -> None:
+    async def _carry(self, port: int, delay: float, reader: asyncio.StreamReader,
+                     writer: asyncio.StreamWriter) -> None:
         ends = [writer]
         with suppress(OSError):
             head = await reader.read(65536)
@@ -181,7 +207,7 @@ class Network:
             if not self._is_cut(port, head):
                 self._open.append((port, head, ends))
                 other.write(head)
-                await asyncio.wait([asyncio.ensure_future(self._pump(*way))
+                await asyncio.wait([asyncio.ensure_future(self._pump(*way, delay))
                                     for way in ((reader, other), (answers, writer))],
                                    return_when=asyncio.FIRST_COMPLETED)
         self._open = [link for link in self._open if link[2] is not ends]
@@ -189,9 +215,10 @@ class Network:
             end.transport.abort()
 
     @staticmethod
-    async def _pump(reader: asyncio.StreamReader, writer: asyncio.StreamWriter) -> None:
+    async def _pump(reader: asyncio.StreamReader, writer: asyncio.StreamWriter, delay: float) -> None:
         with suppress(OSError):
             while data := await reader.read(65536):
+                await asyncio.sleep(delay)
                 writer.write(data)
                 await writer.drain()
 
@@ -288,6 +315,7 @@ class Load:
         own = self.users[place].writes
         while not self.over.wait(random.uniform(0, 2 * PAUSE)):
             if own and random.random() < 0.6:
+                self.turn(client, connection, writes=True)
                 with client.write(own) as write:
                     connection.write(own, write.value)
                 self.written[own] += 1
@@ -296,7 +324,12 @@ class Load:
             self.ended[place] += 1
 
     @staticmethod
-    def read(client: Client, connection: Connection, key: str) -> None:
+    def turn(client: Client, connection: Connection, writes: bool) -> None:
+        connection.turn(writes)
+        client.node = connection.node
+
+    def read(self, client: Client, connection: Connection, key: str) -> None:
+        self.turn(client, connection, writes=False)
         with client.read(key) as read:
             read.value = connection.read(key)
 

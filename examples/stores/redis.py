@@ -1,18 +1,20 @@
 #!/usr/bin/env python3
-"""Redis: one server, a replica that is behind, and a failover that loses writes.
+"""Redis: one server, replicas that are behind, and a failover that loses writes.
 
     examples/stores/redis.py DIR"""
 import shutil
 import socket
 import sys
 from contextlib import closing
-from typing import Optional
+from functools import partial
+from typing import List, Optional
 
-from harness import (LINEARIZABLE, NOT_LINEARIZABLE, PATIENCE, Connection, Lab, Scenario, Server, Unanswered,
-                     clients, five_users, free_ports, main)
+from harness import (LINEARIZABLE, NOT_LINEARIZABLE, PATIENCE, Connection, Lab, Scenario, Server, Several,
+                     Unanswered, clients, five_users, free_ports, main)
 from regkit.record import Recorder  # harness has found it
 
 PROGRAM = shutil.which("redis-server")
+LAGS = [0.02, 0.05]  # seconds that the links to two replicas take
 
 
 class Redis(Connection):
@@ -91,6 +93,31 @@ def replica(lab: Lab, recorder: Recorder, seconds: float) -> None:
         load.go_on(seconds / 3)
 
 
+def behind(lab: Lab, recorder: Recorder, seconds: float, is_sticky: bool) -> None:
+    """Two replicas are behind by the time that their links take. Each client keeps to one of them, or reads
+    from any."""
+    network = lab.network()
+    primary = Node(lab, "primary")
+    replicas = [Node(lab, f"replica-{number}", network.link(primary.port, lag))
+                for number, lag in enumerate(LAGS, 1)]
+
+    def connect(read: List[Node]) -> Several:
+        return Several([primary.connect()], [node.connect() for node in read])
+
+    users = [user._replace(connect=partial(connect, [replicas[place % 2]] if is_sticky else replicas))
+             for place, user in enumerate(five_users(primary.connect, primary.connect))]
+    with clients(recorder, users) as load:
+        load.go_on(seconds)
+
+
+def sticky(lab: Lab, recorder: Recorder, seconds: float) -> None:
+    behind(lab, recorder, seconds, is_sticky=True)
+
+
+def roaming(lab: Lab, recorder: Recorder, seconds: float) -> None:
+    behind(lab, recorder, seconds, is_sticky=False)
+
+
 def failover(lab: Lab, recorder: Recorder, seconds: float) -> None:
     """The primary confirms writes that the replica hasn't got, and is killed."""
     network = lab.network()
@@ -115,6 +142,9 @@ SCENARIOS = [
     Scenario("one-server", "all calls go to one server", LINEARIZABLE, one_server),
     Scenario("replica", "reads go to a replica, which loses its primary for a while", NOT_LINEARIZABLE,
              replica),
+    Scenario("sticky", "each client writes to the primary, and reads from one replica, which is behind",
+             NOT_LINEARIZABLE, sticky),
+    Scenario("roaming", "the same, but each read goes to any of two replicas", NOT_LINEARIZABLE, roaming),
     Scenario("failover", "the replica is behind when the primary is killed, and takes over", NOT_LINEARIZABLE,
              failover)]
 

@@ -76,13 +76,13 @@ class Stores(unittest.TestCase):
             self.skipTest(told.strip())
 
     def test_redis(self) -> None:
-        self.comes_out("redis", "one-server", "replica", "failover")
+        self.comes_out("redis", "one-server", "replica", "sticky", "roaming", "failover")
 
     def test_postgresql(self) -> None:
         self.comes_out("postgresql", "statements", "repeatable-read", "stop", "stop-without-sync")
 
     def test_etcd(self) -> None:
-        self.comes_out("etcd", "linearizable", "serializable")
+        self.comes_out("etcd", "linearizable", "serializable", "roaming")
 
     def test_a_server_that_is_not_installed_is_named(self) -> None:
         script = self.start("redis", PATH="/nowhere")

@@ -14,17 +14,18 @@ LEVELS = ("session", "own_writes", "monotonic", "sequential")
 
 
 def steps(subject: Subject, row: Row, fault: dict[str, Any]) -> list[str]:
-    """The steps of a cycle: each write has to come before the next, and the last before the first."""
+    """The steps of a cycle, from the write that was called first: each has to come before the next, and the
+    last before the first."""
     writes = [subject.operation(row, line) for line in fault["writes"]]
     if len(writes) > MOST_STEPS:
         return [f"{counted(len(writes), 'write')} would each have to come before the next, and the last "
                 "before the first: reglevel's report names them"]
     said = []
-    for place, (before, after) in enumerate(fault["steps"]):
-        one, next_one = writes[place], writes[(place + 1) % len(writes)]
+    for (before, after), one, other in zip(fault["steps"], writes, [*writes[1:], writes[0]]):
         reason = precedence(subject.operation(row, before), subject.operation(row, after))
-        said.append(f"{reason}, so {value_of(one)} comes before {value_of(next_one)}")
-    return said
+        said.append(f"{reason}, so {value_of(one)} comes before {value_of(other)}")
+    first = writes.index(min(writes, key=lambda write: write.line))
+    return said[first:] + said[:first]
 
 
 def unexplained(subject: Subject) -> Iterator[tuple[str, Row]]:
