@@ -42,8 +42,8 @@ def edges_of(ages: list[int]) -> tuple[list[int], bool]:
 
 
 def histogram_of(ages: list[Age]) -> Histogram:
-    """By the clock if each age has a time. Raises ValueError if a read isn't older than the write at all: then
-    the report is of another history."""
+    """By the clock if each age has a time. Raises ValueError if a read began before the newer write ended:
+    then the report is of another history."""
     if any(age.events < 1 for age in ages):
         raise ValueError("a stale read that began before the newer write ended")
     is_time = all(age.nanoseconds is not None for age in ages)
