@@ -9,6 +9,7 @@ from typing import Any, Dict, List, Optional, Tuple
 from unittest import mock
 
 from regkit.checker.levels import LEVELS, read_levels
+from regkit.checker.programs import LEVEL, find_program
 from regkit.history.operations import read_history
 from regkit.levels.ages import Age
 from regkit.levels.subject import Places, Subject
@@ -448,6 +449,16 @@ class Elsewhere(Placed):
             status, words = self.draw()
         self.assertEqual(status, 2)
         self.assertIn("reglevel calls the history atomic", words)
+
+
+@unittest.skipUnless(find_program(LEVEL), "reglevel isn't built")
+class Itself(Placed):
+    def test_the_examples(self) -> None:
+        for path in sorted(EXAMPLES.glob("*.jsonl")):
+            page = self.folder / f"{path.stem}.html"
+            ran = run("levels", "--page", str(page), str(path))
+            self.assertEqual((ran.status, ran.err), (1, ""), path)
+            self.assertIn("<h3>Not kept: linearizable", page.read_text(encoding="utf-8"))
 
 
 if __name__ == "__main__":
