@@ -14,6 +14,7 @@ Its packages are floors, the lowest first. A module imports from its own floor a
     drawing     a history as a page
     judging     what came out of checking a history, and how it is told
     levels      which guarantees a history kept, and how old its reads were
+    pictures    the same as a page
     parts       a history of any size in parts
     merge       one history of what several recorders wrote
     commands    the commands, a module each

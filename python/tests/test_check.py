@@ -15,8 +15,8 @@ from typing import Any, Dict, List, Tuple
 from unittest import mock
 
 from regkit.checker.programs import find_checker, run_checker
+from regkit.drawing.page import DrawSettings
 from regkit.explain.advice import advice
-from regkit.explain.shrinking import ShrinkSettings
 from regkit.history import inputs
 from regkit.judging.outcome import gravest
 from regkit.words import progress
@@ -410,7 +410,7 @@ exit 1"""
             self.assertIn("the answer of regcheck is wrong: ", ran.err)
 
     def test_draw(self) -> None:
-        def drawn(history: bytes, report: bytes, title: str, shrinking: ShrinkSettings) -> str:
+        def drawn(history: bytes, report: bytes, title: str, settings: DrawSettings) -> str:
             return f"<p>{title} {len(history)} {len(report)}"
 
         pages = self.folder / "new" / "pages"

@@ -2,11 +2,12 @@
 import argparse
 import os
 import sys
+from typing import Optional, Sequence
 
 from regkit.base.garbage import many_objects
 from regkit.base.statuses import ExitStatus
 from regkit.checker.programs import NoChecker, with_search_hint
-from regkit.checker.report import read_report
+from regkit.checker.report import Report, read_report
 from regkit.commands.options import add_bounds, bounds_of
 from regkit.commands.stopping import Stop, complain
 from regkit.drawing.draw import page_of
@@ -16,6 +17,7 @@ from regkit.explain.shrinking import MOST_RUNS, ShrinkSettings
 from regkit.history.inputs import TooLong, read_input, shown_name
 from regkit.history.operations import NoRegister, read_history
 from regkit.judging.other_forms import NotTaken, decide_any, hint_of
+from regkit.judging.trust import Untrue, levels_kept
 from regkit.words.progress import Progress
 from regkit.words.quoting import plain
 
@@ -91,7 +93,20 @@ def drawn(arguments: argparse.Namespace) -> str:
         progress.step("drawing", MOST_RUNS if report.by_search else 0)
         title = os.path.basename(shown_name(arguments.history))
         shrinking = ShrinkSettings(bounds_of(arguments), progress.reach)
-        return page_of(history, report, title, DrawSettings(arguments.most, arguments.register, shrinking))
+        held = kept_of(data, report)
+        settings = DrawSettings(arguments.most, arguments.register, shrinking, held)
+        return page_of(history, report, title, settings)
+
+
+def kept_of(data: bytes, report: Report) -> Optional[Sequence[str]]:
+    """The strongest levels of a history that isn't linearizable, if reglevel is there. Raises Stop if it
+    contradicts the report."""
+    if report.by_search or not report.faulty:
+        return None
+    try:
+        return levels_kept(data).levels
+    except Untrue as error:
+        raise Stop(ExitStatus.REFUSED, f"the report isn't of this history: {error}") from error
 
 
 def new_report(arguments: argparse.Namespace, data: bytes, progress: Progress) -> tuple[bytes, bytes]:

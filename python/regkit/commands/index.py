@@ -21,7 +21,8 @@ examples:
 
 A history is a file whose name ends with .jsonl or .jsonl.gz. Its picture is drawn anew only if the history
 is newer, or if the picture is of a search that gave up. The page and the pictures load nothing and have no
-script.
+script. If reglevel is there, the page names the strongest level that each run kept which isn't linearizable,
+and its gap.
 
 exit status:
   0  the page was written, whatever it says
@@ -64,7 +65,7 @@ def run(arguments: argparse.Namespace) -> int:
     output: pathlib.Path = arguments.output or folder / "index.html"
     paths = runs_in(folder)
     with Progress() as progress:
-        settings = CheckSettings(bounds=bounds_of(arguments))
+        settings = CheckSettings(bounds=bounds_of(arguments), levels=True)
         runs = judged(paths[:arguments.most], folder / PICTURES, settings, progress)
     output.write_text(page(runs, len(paths), folder, output), encoding="utf-8", errors="surrogateescape")
     wrong = sum(each.outcome.status == ExitStatus.NOT_ATOMIC for each in runs)

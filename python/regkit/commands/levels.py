@@ -1,5 +1,7 @@
 """`regkit levels`: which guarantees a history kept, and how old its reads were."""
 import argparse
+import os
+import pathlib
 import sys
 from typing import NamedTuple, Optional
 
@@ -17,6 +19,7 @@ from regkit.judging.other_forms import NotTaken, hint_of, taken_of
 from regkit.judging.outcome import gravest
 from regkit.levels.account import account, heading, required
 from regkit.levels.subject import Places, Subject
+from regkit.pictures.page import levels_page
 from regkit.words.colour import CHOICES, painter
 from regkit.words.progress import Progress
 from regkit.words.quoting import plain
@@ -26,6 +29,7 @@ EPILOG = """\
 examples:
   regkit levels history.jsonl
   regkit levels --require session runs/*.jsonl        in CI, for a store that promises no more
+  regkit levels --page levels.html history.jsonl      draws it too: when stale reads came, and each fault
   regkit levels store/latest/history.edn              a file of any form that `regkit convert` takes
 
 It runs reglevel, which takes the histories that regcheck takes. docs/levels.md explains the levels:
@@ -59,6 +63,8 @@ def add_arguments(parser: argparse.ArgumentParser) -> None:
     parser.add_argument("files", metavar="FILE", nargs="*", help="histories; - or none is standard input")
     parser.add_argument("--require", choices=LEVELS,
                         help="the level on which the exit status depends (default atomic)")
+    parser.add_argument("--page", metavar="FILE.html", type=pathlib.Path,
+                        help="also draw the levels, the stale reads and the faults of one history on a page")
     parser.add_argument("--color", choices=CHOICES, default="auto",
                         help="colour: on a terminal unless NO_COLOR is set (default), always, or never")
 
@@ -92,6 +98,13 @@ def report_in(found: Found, name: str, level: Optional[str]) -> Levels:
         raise Stop(ExitStatus.FAILED, f"the answer of reglevel is wrong: {error}") from error
 
 
+def write_page(path: pathlib.Path, page: str) -> None:
+    try:
+        path.write_text(page, encoding="utf-8", errors="surrogateescape")
+    except OSError as error:
+        raise Stop(ExitStatus.FAILED, file_failure("", error)) from error
+
+
 def told_of(name: str, arguments: argparse.Namespace, progress: Progress) -> int:
     """Says what one history kept, and gives its status. Raises Stop, and whatever goes wrong with a file."""
     label, level = plain(shown_name(name)), arguments.require
@@ -101,10 +114,14 @@ def told_of(name: str, arguments: argparse.Namespace, progress: Progress) -> int
     levels = report_in(found, name, level)
     progress.step(f"{label}: reading", found.history.count(b"\n"))
     history = read_history(found.history, progress.reach)
+    subject = Subject(history, levels, Places(found.history, history))
     try:
-        lines = account(Subject(history, levels, Places(found.history, history)))
+        lines = account(subject)
+        page = levels_page(subject, os.path.basename(shown_name(name)), found.told) if arguments.page else ""
     except (KeyError, TypeError, ValueError, IndexError) as error:
         raise Stop(ExitStatus.FAILED, "the answer of reglevel isn't of this history") from error
+    if arguments.page:
+        write_page(arguments.page, page)
     paint = painter(arguments.color, sys.stdout)
     whole = heading(kept(levels.summary), levels.summary["operations"], levels.summary["registers"])
     said = paint("good" if found.answer.status == ExitStatus.ATOMIC else "bad", whole)
@@ -136,6 +153,8 @@ def run(arguments: argparse.Namespace) -> int:
     files: list[str] = arguments.files or [STANDARD_INPUT]
     if files.count(STANDARD_INPUT) > 1:
         return complain("levels", "standard input can be read once: give - once", ExitStatus.COMMAND_LINE)
+    if arguments.page is not None and len(files) > 1:
+        return complain("levels", "--page is of one history: give one", ExitStatus.COMMAND_LINE)
     statuses = []
     with Progress() as progress:
         for name in files:

@@ -2,7 +2,7 @@
 from regkit.base.garbage import many_objects
 from regkit.checker.report import Report, read_report
 from regkit.drawing.page import DrawSettings, page
-from regkit.explain.shrinking import NoFault, ShrinkSettings
+from regkit.explain.shrinking import NoFault
 from regkit.history.operations import History, read_history
 
 
@@ -13,11 +13,11 @@ class Mismatch(ValueError):
         super().__init__("the report isn't of this history")
 
 
-def draw_page(history: bytes, report: bytes, title: str, shrinking: ShrinkSettings = ShrinkSettings()) -> str:
+def draw_page(history: bytes, report: bytes, title: str, settings: DrawSettings = DrawSettings()) -> str:
     """The page for a history that the checker accepted. Raises ValueError if the report is of another
     history."""
     with many_objects():
-        return page_of(read_history(history), read_report(report), title, DrawSettings(shrinking=shrinking))
+        return page_of(read_history(history), read_report(report), title, settings)
 
 
 def page_of(history: History, report: Report, title: str, settings: DrawSettings = DrawSettings()) -> str:

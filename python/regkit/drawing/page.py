@@ -2,7 +2,7 @@
 import base64
 import hashlib
 import pathlib
-from typing import NamedTuple, Sequence
+from typing import NamedTuple, Optional, Sequence
 
 from regkit.base.statuses import ExitStatus
 from regkit.checker.report import Report, Row
@@ -10,9 +10,10 @@ from regkit.drawing.legend import legend
 from regkit.drawing.section import section
 from regkit.drawing.style import STYLE
 from regkit.drawing.svg import tag
-from regkit.drawing.text import attribute, name, words
+from regkit.drawing.text import attribute, name, with_code, words
 from regkit.explain.shrinking import ShrinkSettings
 from regkit.history.operations import History
+from regkit.words.levels import kept_in_words
 from regkit.words.phrases import capital, counted
 from regkit.words.verdicts import VERDICTS
 
@@ -32,6 +33,7 @@ class DrawSettings(NamedTuple):
     most: int = 5  # registers
     registers: Sequence[str] = ()  # these alone, if there are any
     shrinking: ShrinkSettings = ShrinkSettings()  # by which what a search found is made small
+    kept: Optional[Sequence[str]] = None  # the strongest levels that a faulty history kept, if they are known
 
 
 def policy() -> str:
@@ -76,9 +78,14 @@ def verdict(report: Report, title: str) -> str:
     kind, mark = ("yes", TICK) if report.atomic else ("no", CROSS)
     if is_unknown(report):
         kind, mark = "unknown", QUESTION
-    icon = tag("svg", tag("circle", cx=12, cy=12, r=11) + tag("path", d=mark), viewBox="0 0 24 24",
+    return tag("h1", f"{verdict_icon(mark)}{capital(verdict_word(report))}: {name(title)}",
+               class_=f"verdict {kind}")
+
+
+def verdict_icon(mark: str) -> str:
+    """A mark in a disc, before the verdict."""
+    return tag("svg", tag("circle", cx=12, cy=12, r=11) + tag("path", d=mark), viewBox="0 0 24 24",
                aria_hidden="true")
-    return tag("h1", f"{icon}{capital(verdict_word(report))}: {name(title)}", class_=f"verdict {kind}")
 
 
 def summary(history: History, report: Report) -> str:
@@ -103,6 +110,9 @@ def page(history: History, report: Report, title: str, settings: DrawSettings) -
     rows = chosen_rows(history, report, settings)
     sections = [section(history, row, settings.shrinking) for row in rows]
     body = [STRIPES, verdict(report, title), summary(history, report)]
+    if settings.kept is not None and report.faulty:
+        said = capital(f"{kept_in_words(settings.kept)}: `regkit levels --page` draws more.")
+        body.append(tag("p", with_code(said), class_="sub"))
     if not rows:
         body.append(tag("p", words("The history has no operation, so there is nothing to draw.")))
     key = legend((scene for each in sections for scene in each.scenes), bool(history.crashes))

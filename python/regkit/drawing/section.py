@@ -190,13 +190,16 @@ def facts(row: Row) -> str:
 
 def reasons(told: list[str], numbered: bool) -> str:
     """Sentences, each after the number of its arrow or the sign of a read that can't be explained."""
-    items = []
-    for number, sentence in enumerate(told, 1):
-        sign = shapes.badge(10, 10, str(number), FIRST if number == 1 else SECOND)
-        if not numbered:
-            sign = shapes.exclamation(10, 10)
-        items.append(tag("li", tag("svg", sign, viewBox="0 0 20 20", aria_hidden="true") +
-                         words(capital(sentence) + ".")))
+    if not numbered:
+        return with_signs(told, [shapes.exclamation(10, 10)] * len(told))
+    return with_signs(told, [shapes.badge(10, 10, str(number), FIRST if number == 1 else SECOND)
+                             for number in range(1, len(told) + 1)])
+
+
+def with_signs(told: list[str], signs: list[str]) -> str:
+    """Sentences, each after its sign."""
+    items = [tag("li", tag("svg", sign, viewBox="0 0 20 20", aria_hidden="true") +
+                 words(capital(sentence) + ".")) for sentence, sign in zip(told, signs)]
     return tag("ol", "".join(items), class_="reasons") if items else ""
 
 

@@ -5,14 +5,16 @@ LIGHT = """
 --paper:#fff;--ink:#1c2126;--dim:#5d6772;--faint:#e4e8ec;--chip:#f1f3f5;
 --write:#dce1e6;--read:#fff;--edge:#8b949e;
 --one:#0072b2;--one-face:#d3e8f5;--two:#d55e00;--two-face:#fdebdd;--two-stripe:#f8d2b4;
---stale:#cc79a7;--stale-face:#f8e6f0;--good:#009e73;--good-ink:#00704f;--on:#fff
+--stale:#cc79a7;--stale-face:#f8e6f0;--good:#009e73;--good-ink:#00704f;--on:#fff;
+--three-face:#d5efe6;--four:#8a6d00;--four-face:#faf3cd
 """
 
 DARK = """
 --paper:#15181b;--ink:#e3e6e9;--dim:#9aa4ae;--faint:#2b3137;--chip:#23282d;
 --write:#3b434b;--read:#1b1f23;--edge:#7b858f;
 --one:#56b4e9;--one-face:#12374e;--two:#e69f00;--two-face:#33250a;--two-stripe:#57400f;
---stale:#cc79a7;--stale-face:#402535;--good:#1fb98d;--good-ink:#4fd3ac;--on:#101214
+--stale:#cc79a7;--stale-face:#402535;--good:#1fb98d;--good-ink:#4fd3ac;--on:#101214;
+--three-face:#0f3b30;--four:#f0e442;--four-face:#3d390f
 """
 
 MONOSPACE = 'ui-monospace,"SF Mono",Menlo,Consolas,"DejaVu Sans Mono",monospace'
@@ -126,6 +128,40 @@ tspan.place{font-size:10px;fill:var(--good-ink);font-weight:700}
 .defs{position:absolute;width:0;height:0}
 """
 
+LEVELS = """
+.told{margin-top:6px}
+.told .more{color:var(--dim);padding-left:22px}
+.wide{overflow-x:auto}
+.registers th[scope=row]{color:var(--ink);font-weight:400;min-width:8em}
+.moments.registers td:first-child{text-align:left;color:inherit}
+.registers .yes{color:var(--good-ink)}
+.registers .number{text-align:right}
+.level rect{fill:var(--read);stroke:var(--edge);stroke-width:1.2}
+.level.kept rect{stroke:var(--good);stroke-width:1.8}
+.level.lacking rect{stroke-dasharray:5 3}
+.level-name{font-size:13px;font-weight:700}
+svg text.level-note{font-size:10.5px;fill:var(--dim)}
+.broken-disc{fill:var(--two)}
+.broken-mark{fill:none;stroke:var(--on);stroke-width:2}
+.implies{fill:none;stroke:var(--edge);stroke-width:1.2}
+.implies-head{fill:var(--edge)}
+.old rect{fill:var(--stale)}
+.reads{fill:var(--edge)}
+.third .edge,.third .face{fill:var(--three-face)}
+.third .edge,.arrow.third{stroke:var(--good)}
+.fourth .edge,.fourth .face{fill:var(--four-face)}
+.fourth .edge,.arrow.fourth{stroke:var(--four)}
+.arrow.third{stroke-dasharray:2 3}
+.arrow.fourth{stroke-dasharray:9 3 2 3}
+.arrow.step{stroke:var(--ink)}
+.head.third,.badge.third circle{fill:var(--good)}
+.head.fourth,.badge.fourth circle{fill:var(--four)}
+.head.step,.badge.step circle{fill:var(--ink)}
+.badge.step text{fill:var(--paper)}
+"""
+
+CLUSTERS = ("first", "second", "third", "fourth")  # the classes of the values that a picture has a colour for
+
 PRINT = """
 @page{size:landscape;margin:12mm}
 body{padding:0;max-width:none;print-color-adjust:exact;-webkit-print-color-adjust:exact}
@@ -138,7 +174,7 @@ NARROW = "body{padding:20px 16px} figure>svg{max-width:none}"
 STYLE = f"""
 :root{{color-scheme:light dark;{LIGHT}}}
 @media screen and (prefers-color-scheme:dark){{:root{{{DARK}}}}}
-{WORDS}{PICTURES}
+{WORDS}{PICTURES}{LEVELS}
 @media screen and (max-width:760px){{{NARROW}}}
 @media print{{{PRINT}}}
 """.replace("MONOSPACE", MONOSPACE)

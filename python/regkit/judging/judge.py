@@ -1,5 +1,5 @@
 """Checks one history, from the name of its file to its outcome."""
-from typing import NamedTuple, Optional
+from typing import NamedTuple, Optional, Sequence
 
 from regkit.base.garbage import many_objects
 from regkit.base.statuses import ExitStatus
@@ -15,8 +15,8 @@ from regkit.judging.outcome import Outcome, evidence_in_words, lacks
 from regkit.judging.pages import Pages
 from regkit.judging.reads import enough_evidence, first_evidence, whole_evidence
 from regkit.judging.settings import CheckSettings
-from regkit.judging.trust import (Untrue, check_status, faults_in, levels_kept, unknown_advice, verdict_in,
-                                  verify_refusal, verify_report)
+from regkit.judging.trust import (Kept, Untrue, check_status, faults_in, levels_kept, unknown_advice,
+                                  verdict_in, verify_refusal, verify_report)
 from regkit.words.phrases import counted
 from regkit.words.progress import Progress
 from regkit.words.quoting import plain
@@ -116,7 +116,7 @@ def outcome_by_report(subject: Subject, answer: Answer, found: Optional[Evidence
     if settings.verify:
         outcome = as_verified(outcome, unsearched)
     if settings.pages is not None:
-        outcome = outcome._replace(drawing=draw(subject, answer, settings.pages))
+        outcome = outcome._replace(drawing=draw(subject, answer, settings.pages, outcome.kept))
     return outcome
 
 
@@ -147,8 +147,9 @@ def faulty(subject: Subject, answer: Answer, report: Report, outcome: Outcome) -
         known, number, most = 1, "the first faulty register", 1
     faults = faults_in(subject.data, answer, report.faulty[:most])
     asked = subject.settings.levels and not (answer.by_search or subject.settings.first)
+    held = levels_kept(subject.data) if asked else Kept()
     return outcome._replace(status=ExitStatus.NOT_ATOMIC, words=f"{number}; {outcome.words}", faulty=known,
-                            faults=faults, kept=levels_kept(subject.data) if asked else None)
+                            faults=faults, kept=held.levels, gap=held.gap)
 
 
 def as_verified(outcome: Outcome, unsearched: int) -> Outcome:
@@ -157,14 +158,16 @@ def as_verified(outcome: Outcome, unsearched: int) -> Outcome:
     return outcome._replace(words=f"{outcome.words}; the report was verified{but}", verified=not unsearched)
 
 
-def draw(subject: Subject, answer: Answer, pages: Pages) -> str:
-    """Writes the page of a history, and gives the page's name."""
+def draw(subject: Subject, answer: Answer, pages: Pages, held: Optional[Sequence[str]]) -> str:
+    """Writes the page of a history, which kept some levels, and gives the page's name."""
     from regkit.drawing.draw import draw_page  # only who asks for pages waits for this
+    from regkit.drawing.page import DrawSettings
     from regkit.explain.shrinking import MOST_RUNS, ShrinkSettings
 
     path = pages.take(subject.name)
     subject.step("drawing", MOST_RUNS if answer.program == SEARCH else 0)
     shrinking = ShrinkSettings(subject.settings.bounds, subject.progress.reach)
-    page = draw_page(subject.data, answer.report, shown_name(subject.name), shrinking)
+    settings = DrawSettings(shrinking=shrinking, kept=held)
+    page = draw_page(subject.data, answer.report, shown_name(subject.name), settings)
     path.write_text(page, encoding="utf-8", errors="surrogateescape")
     return str(path)

@@ -7,7 +7,7 @@ from regkit.checker.report import Row
 from regkit.evidence.evidence import Evidence
 from regkit.explain.sentences import fault_of, inversion
 from regkit.history.operations import History
-from regkit.words.levels import in_words
+from regkit.words.levels import kept_in_words
 from regkit.words.phrases import counted
 from regkit.words.quoting import plain, quoted
 from regkit.words.verdicts import VERDICTS
@@ -44,6 +44,7 @@ class Outcome(NamedTuple):
     form: str = ""  # of `regkit convert`, if the file wasn't a history of our own
     told: Sequence[str] = ()  # what there is to say of that
     kept: Optional[Sequence[str]] = None  # the strongest levels that held, short of linearizable, if known
+    gap: Optional[int] = None  # in events, if known
 
 
 class TimedOutcome(NamedTuple):
@@ -114,7 +115,7 @@ def text_of(outcome: Outcome) -> list[str]:
     if rest > 0:
         lines.append(f"  and {counted(rest, 'more register')}: --most says how many are shown")
     if outcome.kept is not None:
-        lines.append(f"  it keeps {in_words(outcome.kept) or 'no weaker level'}: `regkit levels` says more")
+        lines.append(f"  {kept_in_words(outcome.kept)}: `regkit levels` says more")
     if outcome.advice:
         lines.append(f"  {outcome.advice}")
     if outcome.drawing:

@@ -10,6 +10,7 @@ from regkit.drawing.page import document
 from regkit.drawing.svg import tag
 from regkit.drawing.text import name, with_code, words
 from regkit.judging.outcome import Outcome
+from regkit.words.levels import in_words
 from regkit.words.phrases import capital, counted
 from regkit.words.quoting import plain
 from regkit.words.verdicts import VERDICTS
@@ -38,7 +39,16 @@ def link(path: pathlib.Path, page: pathlib.Path, content: str) -> str:
     return tag("a", content, href=quote(os.fsencode(os.path.relpath(path, page.parent))))
 
 
-def row(run: ListedRun, page: pathlib.Path) -> str:
+def kept_of(outcome: Outcome) -> str:
+    """`session; gap 5 events`: the strongest levels that a run kept, and its gap. Empty if they aren't
+    known."""
+    if outcome.kept is None:
+        return ""
+    gap = "" if outcome.gap is None else f"; gap {counted(outcome.gap, 'event')}"
+    return f"{in_words(outcome.kept) or 'no level'}{gap}"
+
+
+def row(run: ListedRun, page: pathlib.Path, with_levels: bool) -> str:
     when = datetime.fromtimestamp(run.changed, timezone.utc)
     kind = "yes" if run.outcome.status == ExitStatus.ATOMIC else "no"
     shown = name(run.path.name) if run.picture is None else link(run.picture, page, name(run.path.name))
@@ -47,7 +57,7 @@ def row(run: ListedRun, page: pathlib.Path) -> str:
     said += [with_code(plain(run.outcome.advice))] if run.outcome.advice else []
     cells = [tag("td", f"{when:%Y-%m-%d %H:%M} UTC", class_="when"),
              tag("td", words(VERDICTS[run.outcome.status]), class_=kind), tag("td", shown),
-             tag("td", "<br>".join(said))]
+             *([tag("td", words(kept_of(run.outcome)))] if with_levels else []), tag("td", "<br>".join(said))]
     return tag("tr", "".join(cells))
 
 
@@ -55,9 +65,11 @@ def page(runs: list[ListedRun], found: int, folder: pathlib.Path, output: pathli
     """The whole page, which will stand at `output`. There may be more runs in the folder than are listed."""
     wrong = sum(run.outcome.status == ExitStatus.NOT_ATOMIC for run in runs)
     listed = ("" if len(runs) == found else f"The newest {len(runs):,} of ") + counted(found, "run")
-    head = "".join(tag("th", words(each)) for each in ("Written", "Verdict", "Run", "What came out"))
+    levels = any(run.outcome.kept is not None for run in runs)
+    heads = ["Written", "Verdict", "Run", *(["Keeps"] if levels else []), "What came out"]
+    head = "".join(tag("th", words(each)) for each in heads)
     title = folder.resolve().name
-    rows = "\n".join(row(run, output) for run in runs)
+    rows = "\n".join(row(run, output, levels) for run in runs)
     body = [tag("h1", f"Runs of {name(title)}"),
             tag("p", words(f"{listed}; {wrong:,} not linearizable."), class_="sub"),
             tag("table", tag("tr", head) + rows, class_="runs")]

@@ -1,5 +1,5 @@
 """What is taken from a checker's answer. Whatever can't be so raises Untrue."""
-from typing import Optional, Sequence
+from typing import NamedTuple, Optional, Sequence
 
 from regkit.base.statuses import ExitStatus
 from regkit.checker.levels import kept, read_levels, strongest
@@ -44,16 +44,24 @@ def faults_in(data: bytes, answer: Answer, rows: Sequence[Row]) -> list[Fault]:
         raise Untrue("its faults aren't those of the history") from error
 
 
-def levels_kept(data: bytes) -> Optional[list[str]]:
-    """The strongest levels that a history kept which isn't atomic. None if reglevel isn't there, or gives no
-    report. Raises Untrue if it calls the history atomic."""
+class Kept(NamedTuple):
+    """What a history kept that isn't atomic, as far as it is known."""
+
+    levels: Optional[list[str]] = None  # the strongest ones
+    gap: Optional[int] = None  # in events
+
+
+def levels_kept(data: bytes) -> Kept:
+    """What a history kept that isn't atomic. Nothing is known if reglevel isn't there, or gives no report.
+    Raises Untrue if it calls the history atomic."""
     try:
-        found = kept(read_levels(run_levels(data).report).summary)
+        summary = read_levels(run_levels(data).report).summary
     except (NoChecker, ValueError):
-        return None
+        return Kept()
+    found = kept(summary)
     if "atomic" in found:
         raise Untrue("reglevel calls the history atomic")
-    return strongest(found)
+    return Kept(strongest(found), summary.get("gap"))
 
 
 def unknown_advice(report: Report) -> str:

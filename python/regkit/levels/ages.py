@@ -20,15 +20,32 @@ def nanoseconds_between(before: Operation, after: Operation) -> Optional[int]:
     return after.time - before.end_time
 
 
-def stale_ages(subject: Subject) -> list[Age]:
-    """Of each stale read, how long before it a newer write had ended; the oldest first."""
+class StaleRead(NamedTuple):
+    """A stale read, and how long before it a newer write had ended."""
+
+    read: Operation
+    age: Age
+
+
+def stale_reads(subject: Subject) -> list[StaleRead]:
+    """The stale reads of each register, in the order of the report."""
     found = []
     for row in subject.levels.rows:
         for line, newer in row.get("stale_reads", ()):
             read, write = subject.operation(row, line), subject.operation(row, newer)
             events = subject.places.between(write.end_line or 0, read.line)
-            found.append(Age(events, nanoseconds_between(write, read)))
-    return sorted(found, key=lambda age: (age.nanoseconds or 0, age.events), reverse=True)
+            found.append(StaleRead(read, Age(events, nanoseconds_between(write, read))))
+    return found
+
+
+def oldest_first(reads: list[StaleRead]) -> list[Age]:
+    ages = [each.age for each in reads]
+    return sorted(ages, key=lambda age: (age.nanoseconds or 0, age.events), reverse=True)
+
+
+def stale_ages(subject: Subject) -> list[Age]:
+    """Of each stale read, how long before it a newer write had ended; the oldest first."""
+    return oldest_first(stale_reads(subject))
 
 
 def spans_of(ages: list[Age]) -> list[str]:

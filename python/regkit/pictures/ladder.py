@@ -1,0 +1,69 @@
+"""The levels as they lie above one another, from the strongest at the left, with what held."""
+from regkit.checker.levels import LEVELS, Levels, kept
+from regkit.drawing import shapes, svg
+from regkit.drawing.svg import tag, text
+from regkit.pictures.canvas import Size, figure
+from regkit.words.levels import WORDS, in_words
+from regkit.words.phrases import counted
+
+BOX = Size(246.0, 44.0)
+COLUMN, ROW = 322.0, 58.0
+PLACES = {"atomic": (0, 0.0), "regular": (1, 0.0), "session": (1, 2.0),  # column and row
+          "own_writes": (2, 1.0), "monotonic": (2, 2.0), "sequential": (2, 3.0)}
+STEPS = (("atomic", "regular"), ("atomic", "session"), ("session", "own_writes"), ("session", "monotonic"),
+         ("session", "sequential"))
+MARGIN = 3.0
+WHOLE = Size(2 * COLUMN + BOX.width + 2 * MARGIN, 3 * ROW + BOX.height + 2 * MARGIN)
+CAPTION = "Each level implies those that its arrows lead to."
+
+
+def corner(level: str) -> tuple[float, float]:
+    column, row = PLACES[level]
+    return MARGIN + COLUMN * column, MARGIN + ROW * row
+
+
+def how_many(levels: Levels, level: str) -> str:
+    """How many registers kept a level."""
+    lacking = sum(level not in kept(row) for row in levels.rows)
+    if len(levels.rows) <= 1:
+        return "not kept" if lacking else "kept"
+    if not lacking:
+        return f"kept by all {len(levels.rows):,} registers"
+    return f"not kept by {lacking:,} of {len(levels.rows):,} registers"
+
+
+def sign(x: float, y: float, held: bool) -> str:
+    """A tick in a disc, or a cross."""
+    if held:
+        return shapes.tick(x, y)
+    return tag("circle", class_="broken-disc", cx=x, cy=y, r=7) + tag(
+        "path", class_="broken-mark", d=shapes.path("M", x - 3, y - 3, "l 6 6 m 0 -6 l -6 6"))
+
+
+def box(levels: Levels, level: str, held: bool) -> str:
+    left, top = corner(level)
+    content = [tag("rect", x=left, y=top, width=BOX.width, height=BOX.height, rx=5),
+               sign(left + 18, top + 16, held), text(left + 34, top + 20, WORDS[level], "level-name"),
+               text(left + 34, top + 35, how_many(levels, level), "level-note")]
+    return tag("g", "".join(content), class_="level kept" if held else "level lacking")
+
+
+def step(stronger: str, weaker: str) -> str:
+    """An arrow from the right of one box to the left of another."""
+    (left, top), (right, bottom) = corner(stronger), corner(weaker)
+    begin, middle = left + BOX.width, (left + BOX.width + right) / 2
+    line = shapes.path("M", begin, top + BOX.height / 2, "H", middle, "V", bottom + BOX.height / 2, "H",
+                       right - 7)
+    head = shapes.path("M", right - 8, bottom + BOX.height / 2 - 4.5, "v 9 l 8 -4.5 z")
+    return tag("path", class_="implies", d=line) + tag("path", class_="implies-head", d=head)
+
+
+def ladder(levels: Levels) -> str:
+    """The picture of the whole history."""
+    held = [level for level in LEVELS if not levels.rows or level in kept(levels.summary)]
+    lacking = [level for level in LEVELS if level not in held]
+    parts = [step(*pair) for pair in STEPS]
+    parts += [box(levels, level, level in held) for level in LEVELS]
+    said = [f"kept: {in_words(held)}"] * bool(held) + [f"not kept: {in_words(lacking)}"] * bool(lacking)
+    label = f"The levels that {counted(len(levels.rows), 'register')} kept; {'; '.join(said)}"
+    return figure([tag("g", svg.title(label) + "".join(parts))], WHOLE, label, CAPTION)
