@@ -199,8 +199,7 @@ class Shown(unittest.TestCase):
             self.assertIn(part, str(caught.exception))
 
     def test_pending_operations_in_an_order(self) -> None:
-        """They stand there by choice. A pending read may be given any value, and a pending write gives its
-        own."""
+        """They stand there by choice. A pending read is given any value; a pending write gives its own."""
         history = text(write(1, 1), reply(1), read(2), write(3, 2), read(1), gave(1, 1))
         levels = dict.fromkeys(("atomic", "regular", "session", "sequential"), "yes")
         counts = dict.fromkeys(("stale", "own", "back", "inverted", "lost"), 0)
