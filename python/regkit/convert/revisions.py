@@ -5,10 +5,10 @@
     create "a" that gave revision 7       a cas from null to that
     delete, delete if the revision is 5   a delete, and a cas from the one value of revision 5 to null
 
-Each put that took place tells the revision that it gave, and no two give one; a delete that found a value may
-tell its own. So each revision of a put has one value, and that the key has this revision is that it has this
-value. A put of unknown outcome tells none: it gave a revision that others name, and that no other put can have
-given, or one that nobody saw.
+Each put that took place tells the revision that it gave, and no two give one; a delete that found a value
+may tell its own. So each revision of a put has one value, and that the key has this revision is that it has
+this value. A put of unknown outcome tells none: it gave a revision that others name, and that no other put
+can have given, or one that nobody saw.
 
 Revisions go up, so they tell the order of what overlaps, too (`revision_order`). Where a delete leaves open
 which of two came first, the source is refused unless that is no matter (`revision_blocks`).
@@ -89,8 +89,8 @@ class Revisions:
 
     def _take_deleted(self, delete: SourceOperation, told: int) -> None:
         if delete.kind == DELETE and not delete.found:
-            raise Refused(f"this delete of {shown(delete.key)} has the revision {told}, and doesn't tell that "
-                          "it found a value: only one that did gives a revision",
+            raise Refused(f"this delete of {shown(delete.key)} has the revision {told}, and doesn't tell "
+                          "that it found a value: only one that did gives a revision",
                           delete.end_line or delete.line)
         if told in self.values or told in self.deleted:
             raise Refused(f"this delete of {shown(delete.key)} gave the revision {told}, and so did another "
