@@ -23,13 +23,14 @@ GREATEST = 14  # revision
 START: State = (None, 0, frozenset())  # the value, its revision or 0, and all revisions that were given
 BACK = "so revisions don't go up"
 UNCLEAR = "several puts of unknown outcome|nobody can tell|here it may matter"
-UNTOLD = f"{BACK}|{UNCLEAR}|two puts to k gave the revision|has the version .* and the put asks"
+UNTOLD = f"{BACK}|{UNCLEAR}|two puts to k gave the revision|" \
+          "so did another change|has the version .* and the put asks"
 OPTIONS = ("--revisions", "revision", "--new-revisions", "gave", "--ops",
            "putif=write,drop=count-delete,dropif=delete-if", "--initial", "null", "--values", "exact")
 
 
 def store(state: State, asked: Asked) -> List[Tuple[State, Any]]:
-    """All that may come of an operation, for each greater revision that a put may give: of those that a
+    """All that may come of an operation, for each greater revision that a change may give: of those that a
     history names, or of those between."""
     (value, revision, given), (op, (written, asks)) = state, asked
     if op == "get":
@@ -38,11 +39,14 @@ def store(state: State, asked: Asked) -> List[Tuple[State, Any]]:
         return [((None, 0, given), int(revision > 0))]
     if op == "dropif":
         return [((None, 0, given), True)] if revision == asks else [(state, False)]
-    if op != "put" and revision != asks:
+    if op in ("told drop", "told dropif") and (not revision or op != "told drop" and revision != asks):
+        return [(state, 0)]
+    if op in ("putif", "create") and revision != asks:
         return [(state, "missed")]
     last = max(given, default=0)
     free = [*range(int(last) + 1, GREATEST + 1), last + 0.001]
-    return [((written, new, given | {new}), new) for new in free]
+    is_put = op in ("put", "putif", "create")
+    return [((written if is_put else None, new if is_put else 0, given | {new}), new) for new in free]
 
 
 def simulated(state: State, asked: Asked) -> List[Tuple[State, Any]]:
@@ -52,12 +56,13 @@ def simulated(state: State, asked: Asked) -> List[Tuple[State, Any]]:
 
 def made(chance: random.Random) -> List[Done]:
     """A history, right or with one answer changed."""
-    words = chance.sample(["put", "putif", "create", "drop", "dropif", "get", "get"], chance.randrange(3, 8))
+    words = chance.sample(["put", "putif", "create", "drop", "dropif", "get", "get", "told drop",
+                           "told dropif"], chance.randrange(3, 10))
 
     def ask(state: State) -> Asked:
         op = chance.choice(words)
         asks = state[1] if chance.random() < 0.7 else chance.choice([0, *state[2]])
-        asks = 0 if op == "create" else max(asks, 1) if op == "dropif" else asks
+        asks = 0 if op == "create" else max(asks, 1) if "dropif" in op else asks
         return op, (chance.choice("abc"), asks)
 
     while True:
@@ -78,6 +83,8 @@ def changed(done: List[Done], chance: random.Random) -> List[Done]:
         answer = 1 - answer
     elif op == "dropif":
         answer = not answer
+    elif "drop" in op:
+        answer = chance.choice([0, chance.randrange(1, 8)])
     else:
         given = chance.randrange(1, 8)
         answer = chance.choice(["missed", given] if op != "put" else [given])
@@ -89,7 +96,7 @@ def table(done: List[Done]) -> str:
     for each in done:
         op, (written, asks) = each.asked
         value: Any = written if op in ("put", "putif", "create") else ""
-        revision: Any = asks if op in ("putif", "dropif") else ""
+        revision: Any = asks if op in ("putif", "dropif", "told dropif") else ""
         gave: Any = ""
         ok, outcome = "", each.outcome
         if outcome == "ok" and op == "get" and each.answer is not None:
@@ -98,11 +105,15 @@ def table(done: List[Done]) -> str:
             value = each.answer
         elif outcome == "ok" and op == "dropif":
             ok = str(each.answer).lower()
+        elif outcome == "ok" and "drop" in op:
+            gave, found = each.answer or "", each.answer > 0
+            value, ok = (int(found), "") if op == "told drop" else ("", str(found).lower())
         elif outcome == "ok" and op != "get":
             outcome = "missed" if each.answer == "missed" else "ok"
             gave = "" if outcome == "missed" else each.answer
         end = "" if each.end is None else each.end
-        lines.append(f"{each.client},{each.start},{end},{op},k,{value},{revision},{gave},{ok},{outcome}")
+        word = op.replace("told ", "")
+        lines.append(f"{each.client},{each.start},{end},{word},k,{value},{revision},{gave},{ok},{outcome}")
     return "\n".join(lines)
 
 
@@ -144,6 +155,8 @@ class Revisions(unittest.TestCase):
                  "met the revision 5 and gave 9, and the key had the revision 7 too"),
                 ("1,3,4,delete,k,1,,,,ok\n", "say --ops WORD=count-delete if that is how many values there"),
                 ("1,3,4,delete,k,7,,,,ok\n", "has the value 7: say --ops WORD=delete-if"),
+                ("1,3,4,drop,k,0,,6,,ok\n", "has the revision 6, and doesn't tell that it found a value"),
+                ("1,3,4,drop,k,1,,5,,ok\n", "gave the revision 5, and so did another change"),
                 ("1,3,4,delete,k,,5,,,ok\n", "a delete has the version 5: say --ops WORD=delete-if"),
                 ("1,3,4,fetch-delete,k,a,,,,ok\n", "this delete of k asks for a value, or is answered one"),
                 ("1,3,,put,k,b,,,,unknown\n2,3,,put,k,b,,,,unknown\n3,4,5,get,k,b,7,,,ok\n",
@@ -162,6 +175,8 @@ class Revisions(unittest.TestCase):
                 ("1,1,9,put,k,a,,5,,ok\n2,2,8,create,k,b,,6,,ok\n3,3,7,drop,k,1,,,,ok\n", unclear),
                 ("1,1,9,create,k,a,,5,,ok\n2,2,8,put,k,b,,6,,ok\n3,3,7,drop,k,1,,,,ok\n", unclear),
                 ("1,1,3,create,k,a,,5,,ok\n2,2,8,put,k,b,,6,,ok\n3,4,7,drop,k,1,,,,ok\n", ""),
+                ("1,1,9,put,k,a,,5,,ok\n2,2,8,create,k,b,,7,,ok\n3,3,7,drop,k,1,,6,,ok\n", ""),
+                ("1,1,9,create,k,a,,5,,ok\n2,2,8,put,k,b,,7,,ok\n3,3,7,drop,k,1,,6,,ok\n", ""),
                 ("1,1,9,put,k,a,,5,,ok\n2,2,8,create,k,b,,6,,ok\n3,3,7,drop,k,1,,,,ok\n"
                  "4,10,11,get,k,b,6,,,ok\n", "")]:
             with self.subTest(rows):

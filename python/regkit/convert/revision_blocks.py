@@ -9,7 +9,7 @@ import bisect
 import itertools
 from typing import Iterable, NamedTuple
 
-from regkit.convert.model import DELETE, Refused, SourceOperation
+from regkit.convert.model import CAS, DELETE, Refused, SourceOperation
 from regkit.convert.revision_order import Order, Span
 from regkit.convert.values import shown
 
@@ -38,7 +38,10 @@ class _Block(NamedTuple):
     is_sensed: bool  # whether something asked for one of its revisions, and may not have met it
 
     def is_like(self, other: "_Block") -> bool:
-        return self.first.version == other.first.version and self.is_cleared == other.is_cleared
+        return self._shape() == other._shape()
+
+    def _shape(self) -> tuple[object, ...]:
+        return self.first.version, self.first.kind == DELETE, self.is_cleared
 
 
 class Blocks:
@@ -46,12 +49,13 @@ class Blocks:
 
     def __init__(self, operations: list[SourceOperation], order: Order,
                  spans: dict[SourceOperation, Span]) -> None:
-        self._order = order
-        self._deletes = _Deletes(operations, spans)
+        self._order, self._operations, self._spans = order, operations, spans
+        self._deletes = _Deletes((each for each in operations if each not in order.given), spans)
         self._cleared = {each.version for each in operations if each.clears and each.ending != "fail" and
                          not each.missed}
         self._sensed = {each.version for each in operations if _may_miss(each)}
-        self._givers = {revision: put for put, revision in order.given.items()}
+        self._givers = {revision: each for each, revision in order.given.items()}
+        self._unseen = min((spans[each].call for each in operations if _is_unseen(each, order)), default=None)
 
     def settle(self) -> None:
         """Lets puts ask for the revision before their own, if nothing else can have come before them. Raises
@@ -60,6 +64,7 @@ class Blocks:
             return  # a revision that nobody gave: so there is no legal order
         for revision, following in zip(self._order.revisions, self._order.revisions[1:]):
             self._join(revision, following)
+        self._deletes = _Deletes(self._operations, self._spans)
         parts = self._parts()
         if self._order.faults:
             self._refuse_hidden(parts)
@@ -70,11 +75,18 @@ class Blocks:
                 self._refuse_unclear(block, other)
 
     def _join(self, revision: int, following: int) -> None:
-        put, before = self._givers[following], self._givers[revision]
-        may_differ = revision in self._cleared or revision in self._sensed
-        if put.version is None and not may_differ and not self._deletes.are_between(
-                self._order.span(before), self._order.span(put)):
-            put.version = revision
+        """Lets a change ask for the revision before its own, or for none behind a delete, if it met that."""
+        change, before = self._givers[following], self._givers[revision]
+        begins, ends = self._order.span(before), self._order.span(change)
+        if change.version is not None or self._deletes.are_between(begins, ends):
+            return
+        if before.kind == DELETE or before.clears:
+            if change.kind != DELETE and (self._unseen is None or self._unseen > ends.end):
+                change.version = 0
+        elif revision not in self._cleared and revision not in self._sensed:
+            change.version = revision
+            if change.kind == DELETE:
+                change.kind, change.value, change.clears, change.found = CAS, None, True, None
 
     def _parts(self) -> list[list[int]]:
         """The revisions of each block."""
@@ -98,20 +110,30 @@ class Blocks:
         for each, named in self._order.named.items():
             spans[of_part[named[-1]]].append(self._order.span(each))
         return [_Block(self._givers[part[0]], part[0], max(span.call for span in own),
-                       min(span.end for span in own), part[-1] in self._cleared,
+                       min(span.end for span in own), self._is_cleared(part[-1]),
                        not self._sensed.isdisjoint(part)) for part, own in zip(parts, spans)]
+
+    def _is_cleared(self, revision: int) -> bool:
+        return revision in self._cleared or self._givers[revision].clears
 
     def _refuse_unclear(self, block: _Block, other: _Block) -> None:
         if block.is_like(other) and not block.is_sensed and not other.is_sensed:
             return
         begins, ends = self._order.span(other.first), self._order.span(block.first)
-        if block.first.version == 0 and not other.is_cleared and not self._deletes.are_between(begins, ends):
+        takes_away = other.is_cleared or other.first.kind == DELETE
+        if block.first.version == 0 and not takes_away and not self._deletes.are_between(begins, ends):
             return  # nothing can have taken the other value away before this one was created
         raise Refused(f"this put gave the revision {other.revision} of {shown(other.first.key)} while the "
                       f"one of line {block.first.line} gave {block.revision}, and a delete came between them "
                       "or behind both: a history can't say which of the two came first, and here it may "
-                      "matter. Leave out such keys with --ops WORD=other --skip-key, or let fewer clients "
-                      "change one key", other.first.line)
+                      "matter. Let deletes that found a value tell the revision that they gave, too, or leave "
+                      "out such keys with --ops WORD=other --skip-key", other.first.line)
+
+
+def _is_unseen(operation: SourceOperation, order: Order) -> bool:
+    """Whether an operation may have put a value where there was none, and nobody knows its revision."""
+    is_unknown = operation.ending in (None, "crash") and operation not in order.given
+    return operation.kind == "write" and is_unknown and not operation.version
 
 
 def _may_miss(operation: SourceOperation) -> bool:

@@ -5,9 +5,10 @@
     create "a" that gave revision 7       a cas from null to that
     delete, delete if the revision is 5   a delete, and a cas from the one value of revision 5 to null
 
-Each put that took place tells the revision that it gave, and no two give one. So each revision has one value,
-and that the key has this revision is that it has this value. A put of unknown outcome tells none: it gave a
-revision that others name, and that no other put can have given, or one that nobody saw.
+Each put that took place tells the revision that it gave, and no two give one; a delete that found a value
+may tell its own. So each revision of a put has one value, and that the key has this revision is that it has
+this value. A put of unknown outcome tells none: it gave a revision that others name, and that no other put
+can have given, or one that nobody saw.
 
 Revisions go up, so they tell the order of what overlaps, too (`revision_order`). Where a delete leaves open
 which of two came first, the source is refused unless that is no matter (`revision_blocks`).
@@ -57,6 +58,10 @@ class Revisions:
         for put in self.puts:
             if put.ending == "reply" and not put.missed:
                 self._take_told(put)
+        self.deleted: set[int] = set()  # the revisions that deletes gave
+        for each in operations:
+            if (each.kind == DELETE or each.clears) and each.told_version is not None and not each.missed:
+                self._take_deleted(each, each.told_version)
         self._give_unknown()
         self._refuse_unnamed()
 
@@ -82,12 +87,23 @@ class Revisions:
                           "own: are these revisions those of the puts?", put.end_line or put.line)
         self.values[told], self.given[put] = put.value, told
 
+    def _take_deleted(self, delete: SourceOperation, told: int) -> None:
+        if delete.kind == DELETE and not delete.found:
+            raise Refused(f"this delete of {shown(delete.key)} has the revision {told}, and doesn't tell "
+                          "that it found a value: only one that did gives a revision",
+                          delete.end_line or delete.line)
+        if told in self.values or told in self.deleted:
+            raise Refused(f"this delete of {shown(delete.key)} gave the revision {told}, and so did another "
+                          "change: are these revisions those of the changes?", delete.end_line or delete.line)
+        self.deleted.add(told)
+        self.given[delete] = told
+
     def _give_unknown(self) -> None:
         """Gives puts of unknown outcome the revisions that are named and that no other put gave."""
         orphans: dict[int, Optional[SourceOperation]] = {}  # with a get that has its value, if there is one
         for each in self.operations:
             for revision in named_by(each):
-                if revision not in self.values:
+                if revision not in self.values and revision not in self.deleted:
                     orphans[revision] = each if each.kind == "read" else orphans.get(revision)
         for revision, get in orphans.items():
             may_be = [put for put in self.puts if put.ending in (None, "crash")
@@ -106,7 +122,8 @@ class Revisions:
         unseen = [put for put in self.puts if put.ending in (None, "crash") and put not in self.given]
         for each in self.operations:
             asked = each.version or 0
-            if each.kind == "read" or each.ending == "fail" or not asked or asked in self.values:
+            if each.kind == "read" or each.ending == "fail" or not asked or asked in self.values or (
+                    asked in self.deleted):
                 continue
             put = next((put for put in unseen if put is not each and (put.version or 0) < asked), None)
             if put is not None:

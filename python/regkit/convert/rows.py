@@ -119,10 +119,13 @@ class Rows:
             operation.told_version = self._told_version(operation, row)
         elif operation.kind == DELETE_IF:
             operation.version = versions.asked(given, member, row.line)
+            operation.told_version = self._told_version(operation, row)
         elif given is not None and operation.kind in DELETES:
             raise Refused(f"a {operation.kind} has the version {spelled(given)[:40]}: say --ops "
                           f"WORD={DELETE_IF} if it deletes this version alone, or leave the version out",
                           row.line)
+        elif operation.kind in DELETES:
+            operation.told_version = self._told_version(operation, row)
 
     def _told_version(self, put: SourceOperation, row: Row) -> Optional[int]:
         """The version that a put is answered, in a member of its own."""
