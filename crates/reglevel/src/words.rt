@@ -22,7 +22,7 @@ const REQUIRE: &str = "The level that each register has to keep for the exit sta
 
 const WORKERS: &str = "Workers, 1 to 16; the report is the same with any number";
 
-const STALE: &str = "Lists each stale read with the newest write that it missed";
+const STALE: &str = "Lists each stale read with the missed write that ended first";
 
 const ORDERS: &str = "Gives an order for the strongest level that a register kept";
 
