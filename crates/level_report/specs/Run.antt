@@ -19,11 +19,13 @@ IsOfInput InputFailed = ⊥
 IsOfInput NoRoom = ⊥
 IsOfInput OutputFailed = ⊥
 
--- the answer to all the bytes that were left is a report, and its bytes were taken
-abbrev pub Reports : Asked → Option (List ℕ) → Option (List ℕ) → Option (List ℕ) → Type 0
-Reports asked left old new =
-    (input : List ℕ) × IsAll left input × (bytes : List ℕ) × IsAnswerText asked input bytes
-    × Appends old new bytes
+-- the answer to all the bytes that were left is a report: its bytes were taken, and the outcome says whether
+-- the level holds of the same history
+abbrev pub Reports : Asked → LevelName → Option (List ℕ) → Option (List ℕ) → Option (List ℕ) → Outcome
+    → Type 0
+Reports asked level left old new outcome =
+    (input : List ℕ) × IsAll left input × IsOutcome level input outcome × (bytes : List ℕ)
+    × IsAnswerText asked input bytes × Appends old new bytes
 
 -- whether the level holds of the history in all the bytes that were left
 abbrev pub Tells : LevelName → Option (List ℕ) → Outcome → Type 0

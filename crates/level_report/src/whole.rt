@@ -79,9 +79,10 @@ pub fn run<T: Threads + RandomSource + Sync, R: Source, W: Sink>(
     requires sink { W.failed sink.old < 2 ^ 64 - 1 }
 
     // The bytes that the sink took are the report of all the bytes that the source had left. Of each
-    // register it says of each level yes exactly if a legal order keeps it, the counts, and the gap.
-    ensures report { IfOk result (λ _.
-        Reports settings.asked (R.left source.old) (W.taken sink.old) (W.taken sink.new)) }
+    // register it says of each level yes exactly if a legal order keeps it (of regular, if no read is stale),
+    // the counts, and the gap. The outcome is that of the same history.
+    ensures report { IfOk result (λ outcome. Reports settings.asked settings.required (R.left source.old)
+        (W.taken sink.old) (W.taken sink.new) outcome) }
 
     // The level that was asked for holds of each register, or of some it doesn't.
     ensures level { IfOk result (Tells settings.required (R.left source.old)) }

@@ -123,7 +123,7 @@ pub struct Freshness {
     pub early: Option<EarlyRead>,
     /// If neither is there, how many reads gave an older value than that of a write which precedes them; that
     /// of an earlier write of their session; of an earlier read of their session; of an earlier read of any
-    /// session. And how many writes no later read gave, nor anything newer.
+    /// session. And after how many acknowledged writes somebody read, and always something older.
     pub stale: Option<u32>,
     pub own: Option<u32>,
     pub back: Option<u32>,

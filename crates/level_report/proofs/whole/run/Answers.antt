@@ -9,6 +9,7 @@ returns-in-Ok-clause-report g c =
     let made = c.in_ok-bytes.ensures.ok in (
       made.0,
       made.1,
+      made.3,
       c.in_ok-bytes.bytes.items,
       made.2,
       subst (Appends (g.W.Sink.taken c.args.sink.now) (g.W.Sink.taken c.deliver.new.sink))
