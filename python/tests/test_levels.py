@@ -84,7 +84,8 @@ after the write of 2 by process 1, client ann, node leader, 0.002 s (lines 5 to 
     the first of register "cart": the read of 1 by process 2, client bob, node follower, 0.015 s (lines 11 to 12), \
 after the read of 2 by process 1, client ann, node leader, 0.003 s (lines 9 to 10); \
 the write of 2 by process 1, client ann, node leader, 0.002 s (lines 5 to 6) wrote the newer value, {BEGUN}
-  no session missed a write of its own; no session went back to an older value; no acknowledged write was lost
+  no session missed a write of its own; no session went back to an older value; no acknowledged write \
+was missed by all later reads
 """)
 
     def test_a_cycle_that_no_count_shows(self) -> None:
@@ -95,7 +96,7 @@ the write of 2 by process 1, client ann, node leader, 0.002 s (lines 5 to 6) wro
 or sequential: 6 operations on 1 register
   it would be linearizable if reads might be up to 6 events old, and not if they must be younger
   no read was stale; no session missed a write of its own; no session went back to an older value; \
-no read gave an older value than an earlier read; no acknowledged write was lost
+no read gave an older value than an earlier read; no acknowledged write was missed by all later reads
   register "x" doesn't keep monotonic reads: the read of 1 by process 3 (lines 5 to 6) ended before the read of 2 \
 by process 3 (lines 7 to 8) began, so 1 comes before 2
     the read of 2 by process 4 (lines 9 to 10) ended before the read of 1 by process 4 (lines 11 to 12) began, \
@@ -116,8 +117,9 @@ so 2 comes before 1
                 "process 2 (lines 7 to 8), after the read of 2 by process 2 (lines 5 to 6); the write of 2 by "
                 "process 1 (lines 3 to 4) wrote the newer value, and the write of 1"]),
             ("lost_write", [[7, 5], [9, 5]], [
-                "  1 acknowledged write was never read after it ended, nor anything newer\n    the first: the write "
-                "of 2 by process 1 (lines 5 to 6)\n    let clients read once more"]),
+                "  1 acknowledged write was missed: after it had ended, all reads gave something older\n    the "
+                "first: the write of 2 by process 1 (lines 5 to 6)\n    let clients read once more after the run "
+                "has settled, or a write that is only late counts too"]),
             ("one_guarantee_each", [], ['  register "x" doesn\'t keep session: the write of 1 by']),
         ]
         for name, stale, parts in table:
@@ -352,7 +354,8 @@ class Firsts(unittest.TestCase):
         for ordered in (rows, rows[::-1]):
             said = "\n".join(counts(subject_of(events, *ordered, lost=2, **numbers)))
             self.assertIn('the first of register "b": the read of null by process 2 (lines 5 to 6)', said)
-            self.assertIn('the first of register "a": the write of 1 by process 1 (lines 1 to 2)', said)
+            self.assertIn("2 acknowledged writes were missed: after each had ended, all reads gave something older"
+                          '\n  the first of register "a": the write of 1 by process 1 (lines 1 to 2)', said)
 
 
 class Guesses(unittest.TestCase):
@@ -369,17 +372,17 @@ class Guesses(unittest.TestCase):
             ("own_writes", {"stale": 21665, "back": 3032, "inverted": 17572}, "with a token"),
             ("own_writes", {"stale": 455, "back": 110, "inverted": 983}, "quorums without write-back"),
             ("monotonic", {"stale": 310835, "own": 64983, "inverted": 82008}, "keep to one replica"),
-            ("monotonic", {"stale": 79905, "own": 7144}, "ignores some acknowledged writes"),
+            ("monotonic", {"stale": 79905, "own": 7144}, "or one copy that ignores"),
             ("sequential", {"stale": 224455, "back": 20619, "inverted": 166620}, "several leaders"),
-            ("", {"stale": 310695, "own": 63474, "back": 23620, "inverted": 80282}, "any one is read"),
+            ("", {"stale": 310695, "own": 63474, "back": 23620, "inverted": 80282}, "or a failover"),
             ("", {"stale": 12495, "own": 886, "back": 98, "inverted": 928}, "a cache in front"),
-            ("", {"stale": 79065, "own": 6348, "back": 2830, "inverted": 25775}, "of which any one is read"),
-            ("", {"stale": 2695, "own": 542, "back": 765, "inverted": 2388}, "a failover"),
+            ("", {"stale": 79065, "own": 6348, "back": 2830, "inverted": 25775}, "replicas or caches of which any one"),
+            ("", {"stale": 2695, "own": 542, "back": 765, "inverted": 2388}, "or a failover"),
         ]
         for levels, counts, store in table:
             with self.subTest(store, counts=counts):
                 said = guess(self.summary(levels, **counts))
-                self.assertTrue(said.startswith("a guess, by simulated stores: "), said)
+                self.assertTrue(said.startswith("a guess: this looks like "), said)
                 self.assertIn(store, said)
 
     def test_too_little_for_a_guess(self) -> None:

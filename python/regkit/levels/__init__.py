@@ -2,7 +2,7 @@
 
 - `subject.py`: a history with its report.
 - `ages.py`: how old the values of reads were, in events and by the clock.
-- `counts.py`: the old reads and the lost writes, with the first of each.
+- `counts.py`: the old reads and the missed writes, with the first of each.
 - `shares.py`: whose reads were stale, by client and by node.
 - `faults.py`: why a level wasn't kept, where no single read shows it.
 - `guesses.py`: what kind of store such a run is of.

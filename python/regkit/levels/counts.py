@@ -1,4 +1,4 @@
-"""The old reads and the lost writes of a run: how many there are of each kind, and the first in words."""
+"""The old reads and the missed writes of a run: how many there are of each kind, and the first in words."""
 from typing import NamedTuple
 
 from regkit.checker.report import Row
@@ -33,7 +33,7 @@ KINDS = [
          "gave an older value than a read that had ended before it began",
          "gave an older value than a read that had ended before they began"),
 ]
-SETTLE = "let clients read once more after the run has settled, or a write that is only late counts as lost"
+SETTLE = "let clients read once more after the run has settled, or a write that is only late counts too"
 
 
 def of_register(subject: Subject, row: Row) -> str:
@@ -81,13 +81,14 @@ def old_reads(subject: Subject) -> list[str]:
 
 
 def lost_writes(subject: Subject) -> list[str]:
+    """Those that all later reads missed. One that vanished isn't among them once a newer one is read."""
     number = subject.levels.summary["lost"]
     if not number:
         return []
     rows = [row for row in subject.levels.rows if "lost_write" in row]
     row = min(rows, key=lambda row: int(row["lost_write"]))
-    ended = "was never read after it" if number == 1 else "were never read after they"
-    return [f"{counted(number, 'acknowledged write')} {ended} ended, nor anything newer",
+    missed = "was missed: after it" if number == 1 else "were missed: after each"
+    return [f"{counted(number, 'acknowledged write')} {missed} had ended, all reads gave something older",
             f"  the first{of_register(subject, row)}: {named(subject.operation(row, row['lost_write']))}",
             f"  {SETTLE}"]
 
@@ -98,7 +99,7 @@ def counts(subject: Subject) -> list[str]:
         return []
     summary = subject.levels.summary
     none = [kind.none for kind in KINDS if not summary[kind.number]]
-    none += [] if summary["lost"] else ["no acknowledged write was lost"]
+    none += [] if summary["lost"] else ["no acknowledged write was missed by all later reads"]
     return [*old_reads(subject), *lost_writes(subject), *(["; ".join(none)] if none else [])]
 
 

@@ -14,7 +14,6 @@ class Mix(NamedTuple):
 
     kept: Sequence[str]
     stale: int
-    back: int
     inverted: int
 
     def is_only(self, *levels: str) -> bool:
@@ -46,11 +45,10 @@ TABLE = [  # the first that fits
           lambda mix: mix.is_only("own_writes")),
     Guess("sessions that keep to one replica each, and don't wait there for their own writes",
           lambda mix: mix.is_only("monotonic") and mix.inverted > 0),
-    Guess("one copy that ignores some acknowledged writes, as if the last write by clocks that differ wins",
+    Guess("one cache that is filled with old values, or one copy that ignores some writes",
           lambda mix: mix.is_only("monotonic")),
-    Guess("a failover that lost acknowledged writes", lambda mix: mix.back * 5 > mix.stale),
     Guess("a cache in front, which is filled with old values", lambda mix: mix.inverted * 7 < mix.stale),
-    Guess("replicas of which any one is read", lambda mix: True),
+    Guess("replicas or caches of which any one is read, or a failover", lambda mix: True),
 ]
 
 
@@ -58,6 +56,6 @@ def guess(summary: Row) -> str:
     """The kind of store, marked as a guess. Empty if too little was seen for one."""
     if summary["atomic"] == "yes" or "unclean" in summary or summary["stale"] + summary["inverted"] < FEWEST:
         return ""
-    mix = Mix(kept(summary), summary["stale"], summary["back"], summary["inverted"])
+    mix = Mix(kept(summary), summary["stale"], summary["inverted"])
     store = next(known.store for known in TABLE if known.fits(mix))
-    return f"a guess, by simulated stores: this looks like {store}"
+    return f"a guess: this looks like {store}"

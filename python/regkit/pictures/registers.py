@@ -8,7 +8,7 @@ from regkit.words.phrases import capital, counted
 
 MOST = 20  # rows
 COUNTS = {"stale": "Stale", "own": "Missed its own write", "back": "Went back", "inverted": "Inverted",
-          "lost": "Lost writes"}
+          "lost": "Missed to the end"}
 UNCOUNTED = "not counted"
 
 
