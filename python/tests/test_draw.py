@@ -317,7 +317,7 @@ class Signs(unittest.TestCase):
         lines = [write(1, 1), reply(1), write(1, 2), reply(1), read(2), read(3), gave(3, 1), gave(2, 1)]
         page = self.page(lines, zones([1, 3], [3, 5], [1, 3]))
         titles = [words for tag, words in page.texts if tag == "title"]
-        for title in ["The read of 1 by process 2 (lines 5 to 8); the stale read: it gave the older value.",
+        for title in ["The read of 1 by process 2 (lines 5 to 8); a stale read: it gave an older value.",
                       "The read of 1 by process 3 (lines 6 to 7); the first read that can't be explained."]:
             self.assertIn(title, titles)
         self.assertEqual((page.count("alarm"), page.count("stale-ring")), (1 + 1, 1 + 1))
@@ -338,7 +338,7 @@ class Signs(unittest.TestCase):
         page = self.page(INVERSION, zones([1, 4], [4, 6], [1, 3]))
         titles = [words for tag, words in page.texts if tag == "title"]
         for title in ["The read of 1 by process 2 (lines 6 to 7); the first read that can't be explained; "
-                      "the stale read: it gave the older value.",
+                      "a stale read: it gave an older value.",
                       "The zone of 1 is forward: from its first reply at line 2 to its last call at line 6, "
                       "the register has to hold this value.",
                       "The zone of 2 is backward: all its operations were open together from line 4 to line "

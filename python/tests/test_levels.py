@@ -15,6 +15,7 @@ from regkit.history.operations import read_history
 from regkit.levels.account import groups, heading
 from regkit.levels.ages import Age, ages_in_words, gap_in_words
 from regkit.levels.counts import counts
+from regkit.levels.faults import faults
 from regkit.levels.guesses import guess
 from regkit.levels.shares import shares_in_words
 from regkit.levels.subject import Places, Subject
@@ -22,7 +23,8 @@ from regkit.words.phrases import duration
 
 from .events import Line, Ran, gave, read, reply, run, text, write
 
-EXAMPLES = pathlib.Path(__file__).resolve().parents[2] / "examples" / "levels"
+ROOT = pathlib.Path(__file__).resolve().parents[2]
+EXAMPLES = ROOT / "examples" / "levels"
 FOLLOWER = str(EXAMPLES / "follower_behind.jsonl")
 STALE = [[7, 5], [11, 5]]  # of the example
 BEGUN = ("and the write of 1 by process 1, client ann, node leader, 0.000 s (lines 1 to 2) had ended before "
@@ -70,10 +72,9 @@ class Accounts(Placed):
         self.assertEqual(self.words(), ["--stale"])
         self.assertEqual(ran.out, f"""\
 {FOLLOWER}: keeps session; not linearizable or regular: 9 operations on 2 registers
-  1 register kept session: "cart"
+  1 register kept session at most: "cart"
   1 register is linearizable: "stock"
-  it would be linearizable if reads might be up to 5 events old, and not if they must be younger; \
-by the times of the lines, that takes 12.3 ms or more
+  linearizable only if reads might be 12.3 ms old or more (5 events)
   2 of 6 reads (33.3%) were stale: a newer write had ended before they began
     the first of register "cart": the read of 1 by process 2, client bob, node follower, 0.003 s (lines 7 to 8), \
 after the write of 2 by process 1, client ann, node leader, 0.002 s (lines 5 to 6), {BEGUN}
@@ -88,13 +89,18 @@ the write of 2 by process 1, client ann, node leader, 0.002 s (lines 5 to 6) wro
 was missed by all later reads
 """)
 
+    def test_the_sample_of_the_readme(self) -> None:
+        told = self.told("follower_behind", stale_reads=STALE).out.replace(FOLLOWER, FOLLOWER[len(f"{ROOT}/"):])
+        sample = "".join(f"    {line}\n" for line in told.splitlines()[:5])
+        self.assertIn(f"\n\n{sample}\n", (ROOT / "README.md").read_text(encoding="utf-8"))
+
     def test_a_cycle_that_no_count_shows(self) -> None:
         """It breaks two levels, and is told once."""
         ran = self.told("readers_disagree", stale_reads=[])
         self.assertEqual(ran.out, f"""\
 {EXAMPLES}/readers_disagree.jsonl: keeps regular and read your writes; not linearizable, session, monotonic reads \
 or sequential: 6 operations on 1 register
-  it would be linearizable if reads might be up to 6 events old, and not if they must be younger
+  linearizable if reads might be 6 events old, and no less
   no read was stale; no session missed a write of its own; no session went back to an older value; \
 no read gave an older value than an earlier read; no acknowledged write was missed by all later reads
   register "x" doesn't keep monotonic reads: the read of 1 by process 3 (lines 5 to 6) ended before the read of 2 \
@@ -304,18 +310,15 @@ class Ages(unittest.TestCase):
             [write(1, 1), reply(1), write(1, 2), reply(1), read(2), gave(2, 2), read(2), gave(2, 1)], 1)]
         gap = {"events": 1, "first": [1, 5], "second": [5, 7], "writes": [1, 3]}
         subject = subject_of(stamped, {"register": "x", "gap": gap}, gap=1)
-        self.assertIn("; by the times of the lines, that takes 1.0 us or more", gap_in_words(subject))
+        self.assertEqual(gap_in_words(subject), "linearizable only if reads might be 1.0 us old or more (1 event)")
         initial = {"events": 1, "first": [0, 5], "second": [3, 7], "writes": [0, 3]}
         subject = subject_of(stamped, {"register": "x", "gap": initial}, gap=1)
-        self.assertTrue(gap_in_words(subject).endswith("that takes 3.0 us or more"))
+        self.assertIn("only if reads might be 3.0 us old or more", gap_in_words(subject))
         del stamped[6]["time"]
         back = [{**line, "time": -line["time"]} for line in stamped if "time" in line]
         for others in (stamped, [*back[:6], {**stamped[6], "time": -9000}, back[6]]):
             subject = subject_of(others, {"register": "x", "gap": gap}, gap=1)
-            self.assertNotIn("times", gap_in_words(subject))
-        self.assertEqual(gap_in_words(subject),
-                         "it would be linearizable if reads might be up to 1 event old, and not if they must be "
-                         "younger")
+            self.assertEqual(gap_in_words(subject), "linearizable if reads might be 1 event old, and no less")
         self.assertEqual(gap_in_words(subject_of(stamped, {"register": "x"})), "")
 
     def test_blank_lines_are_no_events(self) -> None:
@@ -356,6 +359,19 @@ class Firsts(unittest.TestCase):
             self.assertIn('the first of register "b": the read of null by process 2 (lines 5 to 6)', said)
             self.assertIn("2 acknowledged writes were missed: after each had ended, all reads gave something older"
                           '\n  the first of register "a": the write of 1 by process 1 (lines 1 to 2)', said)
+
+
+class Faults(unittest.TestCase):
+    def test_several_registers_with_one_fault_each(self) -> None:
+        """The cycle of the first is told."""
+        lines = (EXAMPLES / "readers_disagree.jsonl").read_text(encoding="utf-8").splitlines()
+        row = json.loads(stored("readers_disagree").splitlines()[0])
+        alone = {key: value for key, value in row.items() if key != "monotonic_fault"}
+        for first, lacking in ((row, "don't keep monotonic reads"), (alone, "aren't sequential")):
+            subject = subject_of([json.loads(line) for line in lines], first, {**first, "register": "y"})
+            said = faults(subject)
+            self.assertEqual(len(said), 2)
+            self.assertTrue(said[0].startswith(f'2 registers {lacking}. The first, "x": the read of 1'), said)
 
 
 class Guesses(unittest.TestCase):
@@ -408,7 +424,7 @@ class Strength(unittest.TestCase):
         rows[8].update(dict.fromkeys(LEVELS, "no"))
         report = "".join(json.dumps(row) + "\n" for row in [*rows, {**rows[8], "registers": 9}])
         self.assertEqual(groups(read_levels(report.encode())), [
-            '8 registers kept session: "r0", "r1", "r2", "r3", "r4", "r5", and 2 more',
+            '8 registers kept session at most: "r0", "r1", "r2", "r3", "r4", "r5", and 2 more',
             '1 register kept no level: "r8"'])
 
 

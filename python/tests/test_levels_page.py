@@ -160,15 +160,26 @@ class Levels(unittest.TestCase):
         page = levels_page(of_example("follower_behind"), "h")
         rows = re.findall("<tr>(.*?)</tr>", page)[1:]
         cells = [re.sub("<.*?>", " ", row).split() for row in rows]
-        self.assertEqual([" ".join(cell) for cell in cells], ["cart no no yes yes yes yes 2 0 0 1 0 5"])
+        self.assertEqual([" ".join(cell) for cell in cells], ["cart no no yes yes yes yes 2 0 0 1 0 12.3 ms (5 events)"])
         session = {"session": "yes", "own_writes": "yes", "monotonic": "yes", "sequential": "yes"}
         events = [line for name in "abc" for line in (write(1, 1, name), reply(1))]
         subject = subject_of(events, row_of([], "a", **session), row_of([], "b"),
                              {"register": "c", "unwritten": 5})
         subject.levels.rows[2].update(unwritten=5)
-        rows = re.findall("<tr>(.*?)</tr>", table(subject.levels))[1:]
+        rows = re.findall("<tr>(.*?)</tr>", table(subject))[1:]
         self.assertEqual([re.sub("<.*?>", " ", row).split()[0] for row in rows], ["b", "c", "a"])
         self.assertIn("not counted", rows[1])
+
+    def test_gaps(self) -> None:
+        """By the clock if the lines have times; above the picture too."""
+        for name, allowed in [("follower_behind", "only if reads might be 12.3 ms old or more (5 events)"),
+                              ("read_goes_back", "if reads might be 3 events old, and no less")]:
+            words = words_of(levels_page(of_example(name), "h"))
+            self.assertIn(f"The register would be linearizable {allowed}. That is its gap.", words)
+        calls = [write(1, 1), reply(1), write(1, 2), reply(1), read(2), gave(2, 1)]
+        gap = {"events": 1, "first": [1, 3], "second": [3, 5], "writes": [1, 3]}
+        subject = subject_of(calls, row_of([], gap=gap), row_of([], "y"))
+        self.assertEqual(re.findall("<td class=.number.>([^<]*)</td></tr>", table(subject)), ["1 event", "none"])
 
     def test_one_register_needs_no_table(self) -> None:
         self.assertNotIn("<table", levels_page(of_example("read_goes_back"), "h"))
@@ -275,9 +286,13 @@ class Reasons(unittest.TestCase):
         self.assertIn("5 writes would each have to come before the next", words_of(page))
         self.assertEqual((self.cycle(12).count("<figure>"), self.cycle(13).count("<figure>")), (2, 1))
 
-    def test_the_stale_read_is_marked(self) -> None:
-        page = levels_page(of_example("lost_write"), "h")
-        self.assertEqual(page.count("; the stale read: it gave the older value."), 1)
+    def test_all_stale_reads_are_marked(self) -> None:
+        """In both pictures, that of the gap and that of the first stale read, and no other read is."""
+        for name in ("lost_write", "own_write_missed"):
+            page, lines = levels_page(of_example(name), "h"), [line for line, _ in STALE_READS[name]]
+            pattern = "The read of [^<]*?[(]lines ([0-9]+) to [0-9]+[)]; a stale read: it gave an older value[.]"
+            self.assertEqual(re.findall(pattern, page), [str(line) for line in lines] * 2, name)
+        self.assertNotIn("a stale read", levels_page(of_example("readers_disagree"), "h"))
 
     def test_the_registers_that_arent_drawn(self) -> None:
         names = [f"r{number}" for number in range(7)]

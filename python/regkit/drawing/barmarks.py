@@ -17,7 +17,7 @@ SIGNS: dict[str, Callable[[float, float], str]] = {
     "overlapped": shapes.parallel, "beside": shapes.parallel, "loose": shapes.tilde, "failed": shapes.cross}
 SIGN_WORDS = {"unexplained": "the first read that can't be explained",
               "contradicted": "no order gives its reply",
-              "stale": "the stale read: it gave the older value",
+              "stale": "a stale read: it gave an older value",
               "fresh": "the fresh read: it gave the newer value",
               "overlapped": "it was open at the same time as the first read that can't be explained",
               "beside": "it overlaps the call whose reply no order gives",

@@ -79,7 +79,7 @@ def signs_of(operation: Operation, marks: Marks) -> list[str]:
     signs = []
     if marks.unexplained is not None and operation.line == marks.unexplained.line:
         signs.append("contradicted" if marks.by_search else "unexplained")
-    if marks.pair is not None and operation is marks.pair.stale:
+    if operation.line in marks.stale_lines or (marks.pair is not None and operation is marks.pair.stale):
         signs.append("stale")
     if marks.pair is not None and operation is marks.pair.fresh and operation.kind == "read":
         signs.append("fresh")

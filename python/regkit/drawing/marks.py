@@ -43,6 +43,7 @@ class Marks:
         self.pair: Optional[StalePair] = None
         self.overlapped: list[Operation] = []  # the writes that were open while the unexplained read was
         self.overlapped_lines: set[int] = set()
+        self.stale_lines: set[int] = set()  # the lines of stale reads, where a report lists them
         self.loose: set[int] = set()  # the lines of calls whose replies needn't count
         self.by_search = False  # whether the unexplained reply is one for which a search found no order
 

@@ -40,7 +40,8 @@ def groups(levels: Levels) -> list[str]:
     lines = []
     for own, names in sorted(found.items(), key=lambda group: -len(group[1])):
         verb = "is" if len(names) == 1 else "are"
-        what = f"{verb} linearizable" if "atomic" in own else f"kept {in_words(own) or 'no level'}"
+        what = f"kept {in_words(own)} at most" if own else "kept no level"
+        what = f"{verb} linearizable" if "atomic" in own else what
         lines.append(f"{counted(len(names), 'register')} {what}: {some(names)}")
     return lines
 

@@ -1,6 +1,7 @@
 """How old the values of reads were: in events, and by the clock where the lines have times."""
 from typing import NamedTuple, Optional
 
+from regkit.checker.report import Row
 from regkit.history.operations import Operation
 from regkit.levels.subject import Subject
 from regkit.words.phrases import counted, duration
@@ -65,30 +66,32 @@ def ages_in_words(ages: list[Age]) -> str:
             f"{hundredth}the worst {spans[0]}")
 
 
-def gap_nanoseconds(subject: Subject) -> Optional[int]:
-    """By the clock, the greatest age that the gaps of the registers show to be needed; None if some line has
-    no time.
+def gap_of(subject: Subject, row: Row) -> Age:
+    """The gap of a register that has one. A step of it that ends with a read says how old this would have to be.
+    What comes before the history has no time, and is older than anything."""
+    steps = [[subject.operation(row, line) for line in row["gap"][key]] for key in ("first", "second")]
+    ages = [nanoseconds_between(*step) for step in steps if step[0].line and step[1].kind == "read"]
+    known = [age for age in ages if age is not None]
+    return Age(row["gap"]["events"], min(known) if known and len(known) == len(ages) else None)
 
-    A step of a gap that ends with a read says how old this would have to be. What comes before the history
-    has no time, and is older than anything."""
-    greatest = 0
-    for row in subject.levels.rows:
-        steps = [row["gap"][key] for key in ("first", "second")] if "gap" in row else []
-        ages = [nanoseconds_between(subject.operation(row, before), subject.operation(row, after))
-                for before, after in steps if before and subject.operation(row, after).kind == "read"]
-        known = [age for age in ages if age is not None]
-        if len(known) < len(ages) or (steps and not ages):
-            return None
-        greatest = max(greatest, min(known, default=0))
-    return greatest
+
+def greatest_gap(subject: Subject) -> Age:
+    """Of all registers: in events, and by the clock if each gap has a time."""
+    gaps = [gap_of(subject, row) for row in subject.levels.rows if "gap" in row]
+    times = [gap.nanoseconds for gap in gaps if gap.nanoseconds is not None]
+    return Age(subject.levels.summary["gap"], max(times) if times and len(times) == len(gaps) else None)
+
+
+def allowed(gap: Age) -> str:
+    """How old reads might have to be for all to be linearizable. The clock gives a lower bound."""
+    events = counted(gap.events, "event")
+    if not gap.nanoseconds:
+        return f"if reads might be {events} old, and no less"
+    return f"only if reads might be {duration(gap.nanoseconds)} old or more ({events})"
 
 
 def gap_in_words(subject: Subject) -> str:
-    """How old reads might have to be for all to be linearizable. Empty without a gap."""
-    events = subject.levels.summary.get("gap")
-    if events is None:
+    """The same of a history. Empty without a gap."""
+    if "gap" not in subject.levels.summary:
         return ""
-    nanoseconds = gap_nanoseconds(subject)
-    clock = f"; by the times of the lines, that takes {duration(nanoseconds)} or more" if nanoseconds else ""
-    return (f"it would be linearizable if reads might be up to {counted(events, 'event')} old, and not if "
-            f"they must be younger{clock}")
+    return f"linearizable {allowed(greatest_gap(subject))}"

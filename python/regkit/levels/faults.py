@@ -10,6 +10,8 @@ from regkit.words.quoting import quoted
 
 MOST_STEPS = 4  # of a cycle that is told
 SHOWN_BY = {"own_writes": "own", "monotonic": "back"}  # the count of the reads that show it by themselves
+KEEP = ("doesn't keep", "don't keep")
+VERBS = {"sequential": ("isn't", "aren't")}
 LEVELS = ("session", "own_writes", "monotonic", "sequential")
 
 
@@ -28,24 +30,34 @@ def steps(subject: Subject, row: Row, fault: dict[str, Any]) -> list[str]:
     return said[first:] + said[:first]
 
 
-def unexplained(subject: Subject) -> Iterator[tuple[str, Row]]:
-    """The levels that some register doesn't keep for a cycle that no old read shows, each with the first such
-    register. A cycle is told once, for the first level that it breaks."""
+def is_unexplained(row: Row, level: str) -> bool:
+    """Whether a register doesn't keep a level for a cycle that no old read shows."""
+    return row.get(f"{level}_fault", {}).get("kind") == "cycle" and not row.get(SHOWN_BY.get(level, ""), 0)
+
+
+def unexplained(subject: Subject) -> Iterator[tuple[str, list[Row]]]:
+    """The levels that some registers don't keep for such a cycle, each with these registers. A cycle is told
+    once, for the first level that it breaks."""
     told = []
     for level in LEVELS:
-        for row in subject.levels.rows:
-            fault = row.get(f"{level}_fault", {})
-            if fault.get("kind") == "cycle" and not row.get(SHOWN_BY.get(level, ""), 0):
-                if fault not in told:
-                    told.append(fault)
-                    yield level, row
-                break
+        rows = [row for row in subject.levels.rows if is_unexplained(row, level)]
+        if rows and rows[0][f"{level}_fault"] not in told:
+            told.append(rows[0][f"{level}_fault"])
+            yield level, rows
+
+
+def lacking(level: str, rows: list[Row]) -> str:
+    """Which registers don't keep a level: the first, and how many."""
+    one, many = (f"{verb} {WORDS[level]}" for verb in VERBS.get(level, KEEP))
+    first = quoted(rows[0]["register"])
+    if len(rows) == 1:
+        return f"register {first} {one}"
+    return f"{len(rows):,} registers {many}. The first, {first}"
 
 
 def faults(subject: Subject) -> list[str]:
     lines = []
-    for level, row in unexplained(subject):
-        first, *others = steps(subject, row, row[f"{level}_fault"])
-        lacks = f"isn't {WORDS[level]}" if level == "sequential" else f"doesn't keep {WORDS[level]}"
-        lines += [f"register {quoted(row['register'])} {lacks}: {first}", *(f"  {other}" for other in others)]
+    for level, rows in unexplained(subject):
+        first, *others = steps(subject, rows[0], rows[0][f"{level}_fault"])
+        lines += [f"{lacking(level, rows)}: {first}", *(f"  {other}" for other in others)]
     return lines

@@ -9,19 +9,19 @@ from regkit.drawing.style import CLUSTERS
 from regkit.drawing.svg import tag
 from regkit.drawing.text import name, words
 from regkit.explain import sentences
-from regkit.explain.causes import StalePair, ended_before
+from regkit.explain.causes import ended_before
 from regkit.explain.shrinking import ShrinkSettings
 from regkit.history.operations import Operation
+from regkit.levels.ages import allowed, gap_of
 from regkit.levels.faults import steps
 from regkit.levels.subject import Subject
 from regkit.pictures.reasons import Fault, Reason, reasons_of
 from regkit.words.levels import in_words
-from regkit.words.phrases import capital, counted
+from regkit.words.phrases import capital
 
 MOST_ARROWS = 12  # of a picture
 STEP = "step"  # the class of all arrows where they are more than there are colours
-GAP = ("The register would be linearizable if reads might be up to {age} old, and not if they must be "
-       "younger. That is its gap.")
+GAP = "The register would be linearizable {allowed}. That is its gap."
 
 
 class Section(NamedTuple):
@@ -71,8 +71,7 @@ def marks_of(subject: Subject, row: Row, reason: Reason) -> Optional[Marks]:
     if len(fault["steps"]) > MOST_ARROWS:
         return None
     marks = marks_of_cycle(subject, row, fault)
-    if "regular" in reason.levels:
-        marks.pair = StalePair(*marks.arrows[-1][:2])  # the newer write, and the read that missed it
+    marks.stale_lines = {line for line, _ in row.get("stale_reads", ())}
     if reason.gap is not None:
         calls = subject.history.registers[row["register"]]
         marks.zones = [zone_of(subject.operation(row, line), calls, cluster)
@@ -108,7 +107,7 @@ def parts_of(subject: Subject, row: Row, author: Author) -> Iterator[str]:
         lacking = in_words(reason.levels)
         yield tag("h3", words(f"Not kept: {lacking}")) + told_of(subject, row, reason)
         if reason.gap is not None:
-            yield tag("p", words(GAP.format(age=counted(reason.gap, "event"))))
+            yield tag("p", words(GAP.format(allowed=allowed(gap_of(subject, row)))))
         marks = marks_of(subject, row, reason)
         if marks is not None:
             yield author.windows(marks, f"what the register didn't keep: {lacking}")

@@ -78,5 +78,5 @@ def faults(subject: Subject) -> str:
 def levels_page(subject: Subject, title: str, more: Sequence[str] = ()) -> str:
     """The page of a history by the name of its file. `more` is what there is to say of that file."""
     body = [STRIPES, top(subject, title), told(subject, more), tag("h2", "The levels"),
-            ladder(subject.levels), staleness(subject), table(subject.levels), faults(subject)]
+            ladder(subject.levels), staleness(subject), table(subject), faults(subject)]
     return document(f"{title_of(subject)}: {title}", "\n".join(filter(None, body)))

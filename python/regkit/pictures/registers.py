@@ -1,10 +1,12 @@
 """The registers that broke a level, in a table: which levels each kept, and what was counted."""
-from regkit.checker.levels import LEVELS, Levels, kept
+from regkit.checker.levels import LEVELS, kept
 from regkit.checker.report import Row
 from regkit.drawing.svg import tag
 from regkit.drawing.text import name, words
+from regkit.levels.ages import gap_of
+from regkit.levels.subject import Subject
 from regkit.words.levels import WORDS
-from regkit.words.phrases import capital, counted
+from regkit.words.phrases import capital, counted, duration
 
 MOST = 20  # rows
 COUNTS = {"stale": "Stale", "own": "Missed its own write", "back": "Went back", "inverted": "Inverted",
@@ -17,7 +19,16 @@ def worst_first(row: Row) -> tuple[int, int]:
     return len(kept(row)), -int(row.get("gap", {}).get("events", 0))
 
 
-def cells(row: Row) -> list[str]:
+def gap_cell(subject: Subject, row: Row) -> str:
+    """`12.3 ms (5 events)`; `none` if the register has no gap."""
+    if "gap" not in row:
+        return "none"
+    gap = gap_of(subject, row)
+    events = counted(gap.events, "event")
+    return f"{duration(gap.nanoseconds)} ({events})" if gap.nanoseconds else events
+
+
+def cells(subject: Subject, row: Row) -> list[str]:
     """The answers and the counts of a register. Without counts, it says so."""
     held = kept(row)
     said = [tag("td", "yes" if level in held else "no", class_="yes" if level in held else "no")
@@ -25,18 +36,18 @@ def cells(row: Row) -> list[str]:
     if "stale" not in row:
         return [*said, tag("td", UNCOUNTED, colspan=len(COUNTS) + 1)]
     counts = [f"{row[key]:,}" for key in COUNTS]
-    gap = f"{row['gap']['events']:,}" if "gap" in row else "none"
-    return said + [tag("td", each, class_="number") for each in (*counts, gap)]
+    return said + [tag("td", each, class_="number") for each in (*counts, gap_cell(subject, row))]
 
 
-def table(levels: Levels) -> str:
+def table(subject: Subject) -> str:
     """Empty with a single register, of which the ladder says it all, or if none broke a level."""
-    broken = sorted((row for row in levels.rows if "atomic" not in kept(row)), key=worst_first)
-    if len(levels.rows) < 2 or not broken:
+    rows = subject.levels.rows
+    broken = sorted((row for row in rows if "atomic" not in kept(row)), key=worst_first)
+    if len(rows) < 2 or not broken:
         return ""
-    heads = ["Register", *(capital(WORDS[level]) for level in LEVELS), *COUNTS.values(), "Gap in events"]
+    heads = ["Register", *(capital(WORDS[level]) for level in LEVELS), *COUNTS.values(), "Gap"]
     head = tag("tr", "".join(tag("th", words(each), scope="col") for each in heads))
-    body = [tag("tr", tag("th", name(row["register"]), scope="row") + "".join(cells(row)))
+    body = [tag("tr", tag("th", name(row["register"]), scope="row") + "".join(cells(subject, row)))
             for row in broken[:MOST]]
     rest = len(broken) - MOST
     more = f"{counted(rest, 'more register')} broke a level." if rest > 0 else ""
