@@ -27,7 +27,7 @@ ROOT = pathlib.Path(__file__).resolve().parents[2]
 EXAMPLES = ROOT / "examples" / "levels"
 FOLLOWER = str(EXAMPLES / "follower_behind.jsonl")
 STALE = [[7, 5], [11, 5]]  # of the example
-BEGUN = ("and the write of 1 by process 1, client ann, node leader, 0.000 s (lines 1 to 2) had ended before "
+BEGUN = ("and the write of 1 by process 1, client ann, node leader, at 0.0 ms (lines 1 to 2) had ended before "
          "that write began")
 COUNTS = ("stale", "own", "back", "inverted", "lost")
 
@@ -76,15 +76,15 @@ class Accounts(Placed):
   1 register is linearizable: "stock"
   linearizable only if reads might be 12.3 ms old or more (5 events)
   2 of 6 reads (33.3%) were stale: a newer write had ended before they began
-    the first of register "cart": the read of 1 by process 2, client bob, node follower, 0.003 s (lines 7 to 8), \
-after the write of 2 by process 1, client ann, node leader, 0.002 s (lines 5 to 6), {BEGUN}
-    half of them came at least 12.3 ms after a newer write had ended, the worst 12.3 ms
+    the first of register "cart": the read of 1 by process 2, client bob, node follower, at 3.0 ms (lines 7 to 8), \
+after the write of 2 by process 1, client ann, node leader, at 2.0 ms (lines 5 to 6), {BEGUN}
+    the worst came 12.3 ms after a newer write had ended
     stale reads: client bob 2 of 5, client ann 0 of 1
     stale reads: node follower 2 of 5, node leader 0 of 1
   1 read gave an older value than a read that had ended before it began
-    the first of register "cart": the read of 1 by process 2, client bob, node follower, 0.015 s (lines 11 to 12), \
-after the read of 2 by process 1, client ann, node leader, 0.003 s (lines 9 to 10); \
-the write of 2 by process 1, client ann, node leader, 0.002 s (lines 5 to 6) wrote the newer value, {BEGUN}
+    the first of register "cart": the read of 1 by process 2, client bob, node follower, at 15.0 ms (lines 11 to 12), \
+after the read of 2 by process 1, client ann, node leader, at 3.5 ms (lines 9 to 10); \
+the write of 2 by process 1, client ann, node leader, at 2.0 ms (lines 5 to 6) wrote the newer value, {BEGUN}
   no session missed a write of its own; no session went back to an older value; no acknowledged write \
 was missed by all later reads
 """)
@@ -283,10 +283,11 @@ class Ages(unittest.TestCase):
 
         table = [([7], None, "it came 7 events after a newer write had ended"),
                  ([1], None, "it came 1 event after a newer write had ended"),
-                 ([9, 1], None, "half of them came at least 9 events after a newer write had ended, the "
-                                "worst 9 events"),
-                 ([9, 5, 1], None, "half of them came at least 5 events after"),
-                 ([8, 6, 4, 2], 1000, "at least 6.0 us after a newer write had ended, the worst 8.0 us"),
+                 ([9, 1], None, "the worst came 9 events after a newer write had ended"),
+                 ([8, 6, 4, 2], 1000, "the worst came 8.0 us after a newer write had ended"),
+                 ([9, 8, 5, 2, 1], None, "half of them came at least 5 events after a newer write had ended, "
+                                         "the worst 9 events"),
+                 ([8, 6, 4, 3, 2, 1], 1000, "at least 4.0 us after a newer write had ended, the worst 8.0 us"),
                  (list(range(100, 0, -1)), 10**6,
                   "at least 51.0 ms after a newer write had ended, 1 in 100 at least 100.0 ms, the worst 100.0 ms"),
                  (list(range(1000, 0, -1)), 10**6,
@@ -295,7 +296,7 @@ class Ages(unittest.TestCase):
             self.assertIn(said, words(spans, unit))
 
     def test_one_line_without_a_time(self) -> None:
-        self.assertEqual(ages_in_words([Age(9, 10**9), Age(2, None), Age(4, 5)]),
+        self.assertEqual(ages_in_words([Age(9, 10**9), Age(2, None), Age(4, 5), Age(1, 8), Age(5, 2)]),
                          "half of them came at least 4 events after a newer write had ended, the worst 9 events")
 
     def test_durations(self) -> None:

@@ -71,6 +71,8 @@ class Pages(Placed):
         self.assertEqual(ran, without)
         page = path.read_text(encoding="utf-8")
         self.assertIn("<title>Keeps session: follower_behind.jsonl</title>", page)
+        self.assertIn("Not linearizable or regular: 9 operations on 2 registers.", words_of(page))
+        self.assertNotIn("Keeps session; ", words_of(page))
         for line in without.out.splitlines()[1:]:
             said = line.strip()
             self.assertIn(said[:1].upper() + said[1:] + ".", words_of(page))
@@ -112,6 +114,7 @@ class Pages(Placed):
         subject = subject_of([write(1, 1), reply(1)], {"register": "x", **dict.fromkeys(LEVELS, "yes")})
         page = levels_page(subject, "h")
         self.assertIn("Linearizable: ", words_of(page))
+        self.assertIn("It keeps every level: 1 operation on 1 register.", words_of(page))
         self.assertEqual((page.count("<figure>"), Elements(page).count("kept")), (1, len(LEVELS)))
         self.assertNotIn("<h2>Register", page)
 
@@ -140,20 +143,24 @@ class Pages(Placed):
 
 class Levels(unittest.TestCase):
     def boxes(self, page: str) -> Dict[str, Tuple[str, str]]:
-        """Of each level in words, whether it was kept and by how many registers."""
-        pattern = 'class="level (kept|lacking)">.*?level-name".*?>(.*?)<.*?level-note".*?>(.*?)<'
+        """Of each level in words, whether it was kept and by how many registers. Another name that --require
+        takes is in the words."""
+        pattern = 'class="level (kept|lacking)">.*?level-name".*?>(.*?)</text>.*?level-note".*?>(.*?)<'
         found = re.findall(pattern, page)
-        return {name: (held, note) for held, name, note in found}
+        return {re.sub("<.*?>", "", name): (held, note) for held, name, note in found}
 
     def test_the_ladder(self) -> None:
         boxes = self.boxes(levels_page(of_example("own_write_missed"), "h"))
-        self.assertEqual({name for name, (held, _) in boxes.items() if held == "kept"}, {"monotonic reads"})
+        self.assertEqual({name for name, (held, _) in boxes.items() if held == "kept"},
+                         {"monotonic reads (monotonic)"})
         self.assertEqual(boxes["regular"], ("lacking", "not kept"))
         boxes = self.boxes(levels_page(of_example("follower_behind"), "h"))
         self.assertEqual({name for name, (held, _) in boxes.items() if held == "lacking"},
-                         {"linearizable", "regular"})
+                         {"linearizable (atomic)", "regular"})
+        self.assertIn("read your writes (own_writes)", boxes)
         self.assertEqual(boxes["regular"][1], "not kept by 1 of 2 registers")
         self.assertEqual(boxes["session"][1], "kept by all 2 registers")
+        self.assertIn(">no read misses a write that had ended</text>", levels_page(of_example("lost_write"), "h"))
 
     def test_the_registers(self) -> None:
         """The worst comes first, and one that kept all isn't there."""
@@ -395,6 +402,8 @@ class Bursts(unittest.TestCase):
             self.assertIn(f"Node a: 1 of 1 read stale, {span}", titles)
         self.assertIn("Time line of stale reads: node a 2 of 2 reads and node b 0 of 2 reads", page)
         self.assertNotIn("Node b: ", page)
+        self.assertIn("began within 100 ns; the tallest counts 1. A strip", page)
+        self.assertIn("A burst suggests a failover or a cut link; an even spread, a replica or cache", page)
 
     def test_many_rows(self) -> None:
         names = [f"c{number:02}" for number in range(MOST_ROWS + 3)]

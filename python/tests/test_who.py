@@ -25,7 +25,7 @@ def named(line: Line, time: int, **who: Any) -> Line:
 STALE = [named(write(1, 5), 7 * 10**9, client="worker-1", node="leader"),
          named(reply(1), 7 * 10**9 + 999, client="worker-1", node="leader"),
          named(read(65), 19_031_999_999, **WORKER), named(gave(65, None), 19_050_000_000, **WORKER)]
-SAID = "the read of null by process 65, client worker-3, node replica-1, 12.031 s (lines 3 to 4)"
+SAID = "the read of null by process 65, client worker-3, node replica-1, at 12.031 s (lines 3 to 4)"
 
 
 def first_call(*lines: Line) -> Operation:
@@ -81,9 +81,10 @@ class Lines(unittest.TestCase):
 class Words(unittest.TestCase):
     def test_a_process(self) -> None:
         table: List[Tuple[Dict[str, Any], str]] = [
-            ({}, ""), ({"time": 12_031_999_999}, ", 12.031 s"), ({"client": "worker-3"}, ", client worker-3"),
+            ({}, ""), ({"time": 12_031_999_999}, ", at 12.031 s"), ({"client": "worker-3"}, ", client worker-3"),
             ({"node": "replica-1"}, ", node replica-1"),
-            ({**WORKER, "time": 999_999}, ", client worker-3, node replica-1, 0.000 s")]
+            ({**WORKER, "time": 999_999}, ", client worker-3, node replica-1, at 0.9 ms"),
+            ({"time": 999_999_999}, ", at 999.9 ms"), ({"time": 10**9}, ", at 1.000 s")]
         for who, expected in table:
             history = read_history(text(named(read(1), 0), {**read(65), **who}))
             self.assertEqual(process_of(history.calls[1]), "process 65" + expected)
@@ -99,7 +100,7 @@ class Words(unittest.TestCase):
     def test_explain_and_check(self) -> None:
         history = text(*STALE)
         page = unfolded(explain_text(history, report_of(history)))
-        self.assertIn("The write of 5 by process 1, client worker-1, node leader, 0.000 s (lines 1 to 2) "
+        self.assertIn("The write of 5 by process 1, client worker-1, node leader, at 0.0 ms (lines 1 to 2) "
                       f"ended before {SAID} began", page)
         self.assertIn(SAID, unfolded(run("explain", "-", given=history).out))
         self.assertIn(SAID, unfolded(run("check", "-", given=history).out))

@@ -135,11 +135,13 @@ LEVELS = """
 .registers th[scope=row]{color:var(--ink);font-weight:400;min-width:8em}
 .moments.registers td:first-child{text-align:left;color:inherit}
 .registers .yes{color:var(--good-ink)}
-.registers .number{text-align:right}
+.registers .number{text-align:right;white-space:nowrap}
 .level rect{fill:var(--read);stroke:var(--edge);stroke-width:1.2}
 .level.kept rect{stroke:var(--good);stroke-width:1.8}
 .level.lacking rect{stroke-dasharray:5 3}
 .level-name{font-size:13px;font-weight:700}
+.level-word{font-size:11px;font-weight:400}
+svg text.level-meaning{font-size:10.5px}
 svg text.level-note{font-size:10.5px;fill:var(--dim)}
 .broken-disc{fill:var(--two)}
 .broken-mark{fill:none;stroke:var(--on);stroke-width:2}

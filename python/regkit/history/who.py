@@ -34,15 +34,17 @@ def in_words(client: Optional[str], node: Optional[str], longest: int) -> list[s
     return said
 
 
-def seconds(time: int) -> str:
-    """`12.031 s`."""
-    return f"{time // SECOND}.{time // MILLISECOND % 1000:03} s"
+def moment(time: int) -> str:
+    """`at 12.031 s`, or in the first second `at 3.0 ms`."""
+    if time < SECOND:
+        return f"at {time // MILLISECOND}.{time * 10 // MILLISECOND % 10} ms"
+    return f"at {time // SECOND}.{time // MILLISECOND % 1000:03} s"
 
 
 def process_of(operation: Operation) -> str:
-    """`process 65, client worker-3, node replica-1, 12.031 s`, as far as it was recorded."""
+    """`process 65, client worker-3, node replica-1, at 12.031 s`, as far as it was recorded."""
     words = [f"process {operation.process}", *in_words(operation.client, operation.node, LONGEST)]
-    return ", ".join(words if operation.time is None else [*words, seconds(operation.time)])
+    return ", ".join(words if operation.time is None else [*words, moment(operation.time)])
 
 
 def shared(calls: list[Operation]) -> str:

@@ -14,14 +14,20 @@ from regkit.words.quoting import quoted
 MOST_NAMED = 6  # registers
 
 
-def heading(found: Sequence[str], operations: int, registers: int) -> str:
-    """The levels that all registers kept, and those that some didn't."""
+def below_title(found: Sequence[str], operations: int, registers: int) -> str:
+    """The levels that some registers didn't keep, and how much there is of the history."""
     size = f"{counted(operations, 'operation')} on {counted(registers, 'register')}"
     if "atomic" in found:
-        return f"linearizable, so it keeps every level: {size}"
-    held, lacking = ([level for level in LEVELS if (level in found) == holds] for holds in (True, False))
-    said = f"keeps {in_words(strongest(held))}" if held else "keeps no level"
-    return f"{said}; not {in_words(lacking, 'or')}: {size}"
+        return f"it keeps every level: {size}"
+    return f"not {in_words([level for level in LEVELS if level not in found], 'or')}: {size}"
+
+
+def heading(found: Sequence[str], operations: int, registers: int) -> str:
+    """The same, after the levels that all registers kept."""
+    rest = below_title(found, operations, registers)
+    if "atomic" in found:
+        return f"linearizable, so {rest}"
+    return f"keeps {in_words(strongest(found)) or 'no level'}; {rest}"
 
 
 def some(registers: Sequence[str]) -> str:

@@ -7,6 +7,9 @@ from regkit.levels.subject import Subject
 from regkit.words.phrases import counted, duration
 
 
+FEW = 5  # stale reads, of which half would say little
+
+
 class Age(NamedTuple):
     """From the end of an operation to the beginning of a later one."""
 
@@ -57,18 +60,19 @@ def spans_of(ages: list[Age]) -> list[str]:
 
 
 def ages_in_words(ages: list[Age]) -> str:
-    """How long after a newer write stale reads came: half of them, 1 in 100, and the worst."""
+    """How long after a newer write stale reads came: half of them, 1 in 100, and the worst. Of few, the
+    worst alone."""
     spans = spans_of(ages)
-    if len(spans) == 1:
-        return f"it came {spans[0]} after a newer write had ended"
+    if len(spans) < FEW:
+        return f"{'it' if len(spans) == 1 else 'the worst'} came {spans[0]} after a newer write had ended"
     hundredth = f"1 in 100 at least {spans[(len(spans) - 1) // 100]}, " if len(spans) >= 100 else ""
     return (f"half of them came at least {spans[(len(spans) - 1) // 2]} after a newer write had ended, "
             f"{hundredth}the worst {spans[0]}")
 
 
 def gap_of(subject: Subject, row: Row) -> Age:
-    """The gap of a register that has one. A step of it that ends with a read says how old this would have to be.
-    What comes before the history has no time, and is older than anything."""
+    """The gap of a register that has one. A step of it that ends with a read says how old this would have to
+    be. What comes before the history has no time, and is older than anything."""
     steps = [[subject.operation(row, line) for line in row["gap"][key]] for key in ("first", "second")]
     ages = [nanoseconds_between(*step) for step in steps if step[0].line and step[1].kind == "read"]
     known = [age for age in ages if age is not None]

@@ -1,6 +1,6 @@
 """How many reads were stale in each part of a run, by the node that answered or by the client that asked.
 
-A burst is a failover or a cut link; an even spread is a replica that lags."""
+A burst suggests a failover or a cut link; an even spread, a replica or cache that lags."""
 from collections import Counter
 from typing import Iterator, NamedTuple, Optional
 

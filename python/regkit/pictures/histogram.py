@@ -84,7 +84,7 @@ def labels(drawn: Histogram, width: float) -> list[str]:
 
 
 def histogram(ages: list[Age]) -> str:
-    """The picture of some ages, which are one at least."""
+    """The picture of some ages, one or more."""
     drawn = histogram_of(ages)
     width = (PAGE_WIDTH - LEFT - RIGHT) / len(drawn.counts)
     line = f"M {svg.number(LEFT)} {svg.number(TOP + HEIGHT)} H {svg.number(PAGE_WIDTH - RIGHT)}"

@@ -6,15 +6,20 @@ from regkit.pictures.canvas import Size, figure
 from regkit.words.levels import WORDS, in_words
 from regkit.words.phrases import counted
 
-BOX = Size(246.0, 44.0)
-COLUMN, ROW = 322.0, 58.0
+BOX = Size(246.0, 60.0)
+COLUMN, ROW = 322.0, 74.0
 PLACES = {"atomic": (0, 0.0), "regular": (1, 0.0), "session": (1, 2.0),  # column and row
           "own_writes": (2, 1.0), "monotonic": (2, 2.0), "sequential": (2, 3.0)}
 STEPS = (("atomic", "regular"), ("atomic", "session"), ("session", "own_writes"), ("session", "monotonic"),
          ("session", "sequential"))
 MARGIN = 3.0
 WHOLE = Size(2 * COLUMN + BOX.width + 2 * MARGIN, 3 * ROW + BOX.height + 2 * MARGIN)
-CAPTION = "Each level implies those that its arrows lead to."
+MEANINGS = {
+    "atomic": "each read gives the latest write", "regular": "no read misses a write that had ended",
+    "session": "each session only moves forward", "own_writes": "no session misses its own write",
+    "monotonic": "no session goes back to an older value", "sequential": "all agree on one order of the writes"}
+CAPTION = ("Each level implies those that its arrows lead to. The name in brackets is the one that --require "
+           "takes.")
 
 
 def corner(level: str) -> tuple[float, float]:
@@ -40,11 +45,18 @@ def sign(x: float, y: float, held: bool) -> str:
         "path", class_="broken-mark", d=shapes.path("M", x - 3, y - 3, "l 6 6 m 0 -6 l -6 6"))
 
 
+def name(level: str, x: float, y: float) -> str:
+    """A level in words, and its name for --require if that is another one."""
+    other = "" if WORDS[level] == level else tag("tspan", f" ({level})", class_="level-word")
+    return tag("text", WORDS[level] + other, class_="level-name", x=x, y=y)
+
+
 def box(levels: Levels, level: str, held: bool) -> str:
     left, top = corner(level)
     content = [tag("rect", x=left, y=top, width=BOX.width, height=BOX.height, rx=5),
-               sign(left + 18, top + 16, held), text(left + 34, top + 20, WORDS[level], "level-name"),
-               text(left + 34, top + 35, how_many(levels, level), "level-note")]
+               sign(left + 18, top + 16, held), name(level, left + 34, top + 20),
+               text(left + 34, top + 36, MEANINGS[level], "level-meaning"),
+               text(left + 34, top + 51, how_many(levels, level), "level-note")]
     return tag("g", "".join(content), class_="level kept" if held else "level lacking")
 
 

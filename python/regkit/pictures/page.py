@@ -6,7 +6,7 @@ from regkit.drawing.legend import legend
 from regkit.drawing.page import CROSS, STRIPES, TICK, document, listed, verdict_icon
 from regkit.drawing.svg import tag
 from regkit.drawing.text import name, with_code, words
-from regkit.levels.account import account, heading
+from regkit.levels.account import account, below_title
 from regkit.levels.ages import oldest_first, stale_reads
 from regkit.levels.subject import Subject
 from regkit.pictures.bursts import bursts_of
@@ -19,7 +19,7 @@ from regkit.words.levels import in_words
 from regkit.words.phrases import capital, counted
 
 MOST = 5  # registers whose faults are drawn
-BURSTS = "Bursts are a failover or a cut link; an even spread is a replica that lags."
+BURSTS = "A burst suggests a failover or a cut link; an even spread, a replica or cache that lags."
 
 
 def title_of(subject: Subject) -> str:
@@ -40,9 +40,9 @@ def top(subject: Subject, title: str) -> str:
 
 
 def told(subject: Subject, more: Sequence[str]) -> str:
-    """What `regkit levels` says. A line that is indented says more of the one before it."""
+    """What `regkit levels` says, but for what the title has. A line that is indented says more of the one before it."""
     summary = subject.levels.summary
-    first = heading(kept(summary), summary["operations"], summary["registers"])
+    first = below_title(kept(summary), summary["operations"], summary["registers"])
     items = [tag("p", words(f"{capital(first)}."), class_="sub")]
     for line in [*account(subject), *(f"  {each}" for each in more)]:
         said = with_code(capital(line.strip()) + ".")

@@ -95,8 +95,8 @@ class Timeline:
         extent, hidden = self.bursts.extent, self.bursts.hidden
         axis = "Time since the first call" if extent.is_time else "Lines of the history"
         each = exact(extent.step) if extent.is_time else counted(extent.step, "line")
-        said = (f"{axis}. A bar counts the stale reads that began within {each}, "
-                f"{self.most:,} at most; a strip below it shows that there were reads.")
+        said = (f"{axis}. A bar counts the stale reads that began within {each}; the tallest counts "
+                f"{self.most:,}. A strip below it shows that there were reads.")
         rest = f" {counted(hidden, f'more {self.bursts.what}')} aren't shown." if hidden else ""
         return said + (rest.replace("aren't", "isn't") if hidden == 1 else rest)
 
