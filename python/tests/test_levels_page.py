@@ -160,14 +160,16 @@ class Levels(unittest.TestCase):
         self.assertIn("read your writes (own_writes)", boxes)
         self.assertEqual(boxes["regular"][1], "not kept by 1 of 2 registers")
         self.assertEqual(boxes["session"][1], "kept by all 2 registers")
-        self.assertIn(">no read misses a write that had ended</text>", levels_page(of_example("lost_write"), "h"))
+        page = levels_page(of_example("lost_write"), "h")
+        self.assertIn(">no read misses a write that had ended</text>", page)
 
     def test_the_registers(self) -> None:
         """The worst comes first, and one that kept all isn't there."""
         page = levels_page(of_example("follower_behind"), "h")
         rows = re.findall("<tr>(.*?)</tr>", page)[1:]
         cells = [re.sub("<.*?>", " ", row).split() for row in rows]
-        self.assertEqual([" ".join(cell) for cell in cells], ["cart no no yes yes yes yes 2 0 0 1 0 12.3 ms (5 events)"])
+        self.assertEqual([" ".join(cell) for cell in cells],
+                         ["cart no no yes yes yes yes 2 0 0 1 0 12.3 ms (5 events)"])
         session = {"session": "yes", "own_writes": "yes", "monotonic": "yes", "sequential": "yes"}
         events = [line for name in "abc" for line in (write(1, 1, name), reply(1))]
         subject = subject_of(events, row_of([], "a", **session), row_of([], "b"),
@@ -186,7 +188,8 @@ class Levels(unittest.TestCase):
         calls = [write(1, 1), reply(1), write(1, 2), reply(1), read(2), gave(2, 1)]
         gap = {"events": 1, "first": [1, 3], "second": [3, 5], "writes": [1, 3]}
         subject = subject_of(calls, row_of([], gap=gap), row_of([], "y"))
-        self.assertEqual(re.findall("<td class=.number.>([^<]*)</td></tr>", table(subject)), ["1 event", "none"])
+        last_cells = re.findall("<td class=.number.>([^<]*)</td></tr>", table(subject))
+        self.assertEqual(last_cells, ["1 event", "none"])
 
     def test_one_register_needs_no_table(self) -> None:
         self.assertNotIn("<table", levels_page(of_example("read_goes_back"), "h"))
@@ -297,7 +300,7 @@ class Reasons(unittest.TestCase):
         """In both pictures, that of the gap and that of the first stale read, and no other read is."""
         for name in ("lost_write", "own_write_missed"):
             page, lines = levels_page(of_example(name), "h"), [line for line, _ in STALE_READS[name]]
-            pattern = "The read of [^<]*?[(]lines ([0-9]+) to [0-9]+[)]; a stale read: it gave an older value[.]"
+            pattern = r"The read of [^<]*?\(lines (\d+) to \d+\); a stale read: it gave an older value\."
             self.assertEqual(re.findall(pattern, page), [str(line) for line in lines] * 2, name)
         self.assertNotIn("a stale read", levels_page(of_example("readers_disagree"), "h"))
 

@@ -81,7 +81,8 @@ class Lines(unittest.TestCase):
 class Words(unittest.TestCase):
     def test_a_process(self) -> None:
         table: List[Tuple[Dict[str, Any], str]] = [
-            ({}, ""), ({"time": 12_031_999_999}, ", at 12.031 s"), ({"client": "worker-3"}, ", client worker-3"),
+            ({}, ""), ({"time": 12_031_999_999}, ", at 12.031 s"),
+            ({"client": "worker-3"}, ", client worker-3"),
             ({"node": "replica-1"}, ", node replica-1"),
             ({**WORKER, "time": 999_999}, ", client worker-3, node replica-1, at 0.9 ms"),
             ({"time": 999_999_999}, ", at 999.9 ms"), ({"time": 10**9}, ", at 1.000 s")]

@@ -6,8 +6,8 @@ from regkit.pictures.canvas import Size, figure
 from regkit.words.levels import WORDS, in_words
 from regkit.words.phrases import counted
 
-BOX = Size(246.0, 60.0)
-COLUMN, ROW = 322.0, 74.0
+BOX = Size(300.0, 60.0)
+COLUMN, ROW = 370.0, 74.0
 PLACES = {"atomic": (0, 0.0), "regular": (1, 0.0), "session": (1, 2.0),  # column and row
           "own_writes": (2, 1.0), "monotonic": (2, 2.0), "sequential": (2, 3.0)}
 STEPS = (("atomic", "regular"), ("atomic", "session"), ("session", "own_writes"), ("session", "monotonic"),
@@ -17,7 +17,8 @@ WHOLE = Size(2 * COLUMN + BOX.width + 2 * MARGIN, 3 * ROW + BOX.height + 2 * MAR
 MEANINGS = {
     "atomic": "each read gives the latest write", "regular": "no read misses a write that had ended",
     "session": "each session only moves forward", "own_writes": "no session misses its own write",
-    "monotonic": "no session goes back to an older value", "sequential": "all agree on one order of the writes"}
+    "monotonic": "no session goes back to an older value",
+    "sequential": "all agree on one order of the writes"}
 CAPTION = ("Each level implies those that its arrows lead to. The name in brackets is the one that --require "
            "takes.")
 
