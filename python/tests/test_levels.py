@@ -361,7 +361,8 @@ class Firsts(unittest.TestCase):
             said = "\n".join(counts(subject_of(events, *ordered, lost=2, **numbers)))
             self.assertIn('the first of register "b": the read of null by process 2 (lines 5 to 6)', said)
             self.assertIn("2 acknowledged writes were missed: after each had ended, all reads gave "
-                          'something older\n  the first of register "a": the write of 1 by process 1 (lines 1 to 2)', said)
+                          'something older\n  the first of register "a": the write of 1 by '
+                          "process 1 (lines 1 to 2)", said)
 
 
 class Faults(unittest.TestCase):
