@@ -93,17 +93,15 @@ bin/history_generator: $(SOURCES) crates.txt
 library: $(LIBRARY)/libregcheck.a $(LIBRARY)/libregcheck.so bin/regcheck.pc bin/regcheck.h
 
 # The names of the library, which library/regcheck.map has too.
-CALLS := regcheck_report regcheck_refusal regsearch_report regsearch_refusal
+CALLS := regcheck_report regcheck_refusal regsearch_report regsearch_refusal reglevel_report
 
-# The archive of a static library leaves out the C part of the toolchain's allocator; here it is put in, once
-# for both, and its names are hidden, so that nothing but the calls can clash with a name of the program that
+# The archive of a static library leaves out the C part of the toolchain's allocator; here it is put in, and
+# its names are hidden, so that nothing but the calls can clash with a name of the program that
 # links it.
 bin/libregcheck.a: $(SOURCES) crates.txt
-	for crate in regcheck_c regsearch_c; do \
-	    (cd crates/$$crate && $(CURDIR)/packaging/prove $(CURDIR)/bin/$$crate.log rt lib) || exit 1; \
-	done
+	cd crates/regcheck_c && $(CURDIR)/packaging/prove $(CURDIR)/bin/regcheck_c.log rt lib
 	ld -r $(CALLS:%=-u %) -o bin/libregcheck.o crates/regcheck_c/out/libregcheck_c.a \
-	    crates/regsearch_c/out/libregsearch_c.a "$$(dirname "$$(rt doc)")/c/liblibc_c.a"
+	    "$$(dirname "$$(rt doc)")/c/liblibc_c.a"
 	objcopy $(CALLS:%=--keep-global-symbol=%) bin/libregcheck.o
 	rm -f $@
 	ar rcsD $@ bin/libregcheck.o
@@ -111,9 +109,8 @@ bin/libregcheck.a: $(SOURCES) crates.txt
 # The same for ARM64, over what the rule above proved.
 bin/arm64/libregcheck.a: bin/libregcheck.a bin/arm64/heap.o packaging/compile_arm64
 	packaging/compile_arm64 regcheck_c bin/arm64/libregcheck_c.a
-	packaging/compile_arm64 regsearch_c bin/arm64/libregsearch_c.a
 	$(CROSS)ld -r $(CALLS:%=-u %) -o bin/arm64/libregcheck.o bin/arm64/libregcheck_c.a \
-	    bin/arm64/libregsearch_c.a bin/arm64/heap.o
+	    bin/arm64/heap.o
 	$(CROSS)objcopy $(CALLS:%=--keep-global-symbol=%) bin/arm64/libregcheck.o
 	rm -f $@
 	$(CROSS)ar rcsD $@ bin/arm64/libregcheck.o

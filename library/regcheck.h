@@ -1,9 +1,10 @@
-/* regcheck: proved checkers of recorded runs of registers, as two calls: regcheck_report for reads and
-   writes, and regsearch_report for histories with compare-and-swap and repeated values too. Two more say in
-   words why a history is refused.
+/* regcheck: proved checkers of recorded runs of registers, as three calls: regcheck_report for reads and
+   writes, regsearch_report for histories with compare-and-swap and repeated values too, and reglevel_report
+   for the weaker guarantees that a run of reads and writes kept. Two more say in words why a history is
+   refused.
 
-   A history and its report are the bytes that the programs `regcheck` and `regsearch` read and write;
-   docs/format.md of the project has their format, and docs/embedding.md says more of these calls. */
+   A history and its report are the bytes that the programs `regcheck`, `regsearch` and `reglevel` read and
+   write; docs/format.md of the project has their format, and docs/embedding.md says more of these calls. */
 #ifndef REGCHECK_H
 #define REGCHECK_H
 
@@ -19,8 +20,11 @@ extern "C" {
 /* How a call ended. The numbers are those of the programs' exit statuses, as far as they have them. */
 enum regcheck_status {
     REGCHECK_ATOMIC = 0,     /* the history is atomic (linearizable), and `out` has its report */
+    REGCHECK_KEPT = 0,       /* of reglevel_report: the level holds of each register */
     REGCHECK_NOT_ATOMIC = 1, /* it isn't, and `out` has its report */
+    REGCHECK_BROKEN = 1,     /* of reglevel_report: of some register it doesn't */
     REGCHECK_REFUSED = 2,    /* the input is refused */
+    REGCHECK_BAD_NUMBER = 3, /* of reglevel_report alone: `level` or `more` stands for nothing */
     REGCHECK_NO_MEMORY = 4,  /* memory ran out */
     REGCHECK_TOO_SMALL = 5,  /* the report is longer than `out`: call again with room for `length` bytes */
     REGCHECK_UNKNOWN = 6     /* of regsearch_report alone: not decided within the bounds, and `out` has the
@@ -56,8 +60,29 @@ void regcheck_report(const uint8_t *input, size_t input_length, uint8_t *out, si
 void regsearch_report(const uint8_t *input, size_t input_length, uint64_t steps, size_t configurations,
                       uint8_t *out, size_t out_length, regcheck_answer *answer);
 
-/* Puts the line that the program `regcheck` writes of a history that it refuses at the beginning of the
-   `out_length` bytes at `out`, without a line end or a null byte, and returns its length: 0 if the
+/* What may be required of a history; docs/levels.md says what each means. */
+enum reglevel_level {
+    REGLEVEL_ATOMIC = 0,
+    REGLEVEL_REGULAR = 1,
+    REGLEVEL_SESSION = 2,
+    REGLEVEL_OWN_WRITES = 3,
+    REGLEVEL_MONOTONIC = 4,
+    REGLEVEL_SEQUENTIAL = 5
+};
+
+/* What a report of levels has to say in addition: a sum of these. */
+enum reglevel_more {
+    REGLEVEL_STALE = 1, /* each stale read with the write that it missed */
+    REGLEVEL_ORDERS = 2 /* an order for the strongest level that holds */
+};
+
+/* Checks the history as the program `reglevel` does. `level` is an enum reglevel_level, and `more` a sum of
+   enum reglevel_more; if one is neither, nothing is checked. All else is as of regcheck_report. */
+void reglevel_report(const uint8_t *input, size_t input_length, uint32_t level, uint32_t more, uint8_t *out,
+                     size_t out_length, regcheck_answer *answer);
+
+/* Puts the line that the programs `regcheck` and `reglevel` write of a history that they refuse at the
+   beginning of the `out_length` bytes at `out`, without a line end or a null byte, and returns its length: 0 if the
    history isn't refused, or if memory ran out. If there is no room for all of it, the bytes at `out`
    stay as they were. REGCHECK_LINE_LENGTH bytes are always enough. What a caller of regcheck_report owes
    holds here too. */

@@ -1,12 +1,14 @@
 -- What is made for each number of a register, in order, is the line of each register.
 use Rattle.std.proofs.Common.{◌≡◌, ◌∙◌, ℕ, zero, suc, List, [], ◌∷◌, length, slice_get, Some, refl, sym}
-use Rattle.std.proofs.Common.{ap, subst}
+use Rattle.std.proofs.Common.{ap, subst, ◌+◌, ◌++◌, inl, inr}
+use Rattle.std.proofs.lemmas.List.{length_push}
 use Rattle.std.specs.List.{AllZip}
 use Rattle.history_model.specs.History.{History}
 use Rattle.history_model.specs.declared.ids.RegId.{RegId}
 use Rattle.level_text.specs.declared.report.RegisterLevels.{RegisterLevels}
+use Rattle.reg_clusters.proofs.Pushes.{get-push_cases}
 use Rattle.level_report.specs.Meaning.{IsRegisterLine}
-use Rattle.level_report.specs.Registers.{AreLines, AreNumbers}
+use Rattle.level_report.specs.Registers.{AreFirstLines, AreLines, AreNumbers}
 use Rattle.level_report.specs.declared.settings.Asked.{Asked}
 
 module _ (h : History) (asked : Asked) where
@@ -37,4 +39,16 @@ module _ (h : History) (asked : Asked) where
     each = λ k reg at.
         let x = zip-at ids regs z k reg at in
         subst (λ r. IsRegisterLine h asked r reg) (numbers.each k x.0 x.1) x.2;
+  }
+
+  pub one-line-more : (n : ℕ) (regs : List RegisterLevels) (reg : RegisterLevels)
+      → AreFirstLines h asked n regs → IsRegisterLine h asked n reg
+      → AreFirstLines h asked (n + 1) (regs ++ reg ∷ [])
+  one-line-more n regs reg a is = record {
+    count = length_push regs reg ∙ ap (λ k. k + 1) a.count;
+    each = λ r line q. elim (get-push_cases regs reg line r q) [
+      | inl k ↦ a.each r line k
+      | inr k ↦ subst (IsRegisterLine h asked r) k.1
+          (subst (λ m. IsRegisterLine h asked m reg) (sym (k.0 ∙ a.count)) is)
+    ];
   }

@@ -39,7 +39,9 @@ use Rattle.level_text.specs.declared.report.LevelName.TheVariants.{Atomic, Regul
 use Rattle.level_text.specs.declared.report.LevelName.TheVariants.{OwnWrites, Monotonic, Sequential}
 use Rattle.level_text.specs.declared.report.LevelsReport.{LevelsReport}
 use Rattle.level_text.specs.declared.report.RegisterLevels.{RegisterLevels}
-use Rattle.level_report.specs.Answer.{IsAnswer, IsAnswerToLines, IsOutcome}
+use Rattle.level_report.specs.Answer.{IsAnswer, IsAnswerText, IsAnswerToLines, IsOutcome, IsOutcomeOf}
+use Rattle.level_report.specs.Answer.{IsTold}
+use Rattle.level_report.specs.declared.outcome.Outcome.{Outcome}
 use Rattle.level_report.specs.declared.outcome.Outcome.TheVariants.{Kept, Broken}
 use Rattle.level_text.specs.declared.report.Totals.{Totals}
 use Rattle.history_model.specs.History.{history_of}
@@ -254,16 +256,12 @@ outcome-told h rec asked report is level = go level
 
 -- ---- an input
 
-pub outcome-is : (input : List ℕ) (asked : Asked) (report : LevelsReport) (level : LevelName)
-    → IsRecorded (history_of (events_of (history_lines input)))
-    → IsReport (history_of (events_of (history_lines input))) asked report
-    → IsOutcome level input (cond (totals_say level report.totals) Kept Broken)
-outcome-is input asked report level rec is =
-    go (totals_say level report.totals)
-    (outcome-told (history_of (events_of (history_lines input))) rec asked report is level)
+pub outcome-is : (h : History) (asked : Asked) (report : LevelsReport) (level : LevelName) → IsRecorded h
+    → IsReport h asked report → IsOutcomeOf level h (cond (totals_say level report.totals) Kept Broken)
+outcome-is h asked report level rec is =
+    go (totals_say level report.totals) (outcome-told h rec asked report is level)
   where
-    go : (b : Bool) → IsAnswerTo b (EachHolds level (history_of (events_of (history_lines input))))
-        → IsOutcome level input (cond b Kept Broken)
+    go : (b : Bool) → IsAnswerTo b (EachHolds level h) → IsOutcomeOf level h (cond b Kept Broken)
     go true a = a
     go false a = a
 
@@ -274,3 +272,12 @@ answer-to asked input arena report read is =
     (IsAnswerToLines asked (history_lines input) (Ok report)))
     (sym (le-ltb MAX_INPUT (length input) read.within))
     (read.well_formed, subst (λ h. IsReport h asked report) read.is is)
+
+-- what is told of an input's arena is told of the input
+pub told-of : (asked : Asked) (level : LevelName) (input : List ℕ) (arena : History) (bytes : List ℕ)
+    (outcome : Outcome) → IsArenaOf input arena → IsTold asked level arena bytes outcome
+    → IsAnswerText asked input bytes × IsOutcome level input outcome
+told-of asked level input arena bytes outcome read told = (
+  (told.0, answer-to asked input arena told.0 read told.1, told.2),
+  subst (λ h. IsOutcomeOf level h outcome) read.is told.3,
+)

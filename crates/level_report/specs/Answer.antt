@@ -3,7 +3,7 @@ use Rattle.std.specs.Prelude.{◌≡◌, ◌⊎◌, ◌↔◌, ℕ, List, length
 use Rattle.history_text.specs.declared.limits.TheConstants.{MAX_INPUT}
 use Rattle.history_text.specs.Reading.{history_lines}
 use Rattle.history_model.specs.Refusals.{Line, IsRefusal, IsWellFormed, events_of}
-use Rattle.history_model.specs.History.{history_of}
+use Rattle.history_model.specs.History.{History, history_of}
 use Rattle.reg_intake.specs.declared.refusal.Refusal.{Refusal}
 use Rattle.reg_intake.specs.declared.refusal.Refusal.TheVariants.{At, TooLong, InputFailed}
 use Rattle.reg_intake.specs.declared.refusal.Refusal.TheVariants.{NoRoom, OutputFailed}
@@ -37,7 +37,21 @@ abbrev pub IsAnswerText : Asked → List ℕ → List ℕ → Type 0
 IsAnswerText asked input bytes =
     (report : LevelsReport) × IsAnswer asked input (Ok report) × (bytes ≡ report_text report)
 
--- the level holds of each register of the history in these bytes, or of some it doesn't
+-- why there is no answer: the refusal is the answer, or memory ran out
+abbrev pub IsRefused : Asked → List ℕ → Refusal → Type 0
+IsRefused asked input refusal = (refusal ≡ NoRoom) ⊎ IsAnswer asked input (Err refusal)
+
+-- the level holds of each register of a history, or of some it doesn't
+abbrev pub IsOutcomeOf : LevelName → History → Outcome → Type 0
+IsOutcomeOf level h Kept = EachHolds level h
+IsOutcomeOf level h Broken = EachHolds level h → ⊥
+
+-- the same of the history in these bytes
 abbrev pub IsOutcome : LevelName → List ℕ → Outcome → Type 0
-IsOutcome level input Kept = EachHolds level (history_of (events_of (history_lines input)))
-IsOutcome level input Broken = EachHolds level (history_of (events_of (history_lines input))) → ⊥
+IsOutcome level input outcome = IsOutcomeOf level (history_of (events_of (history_lines input))) outcome
+
+-- the bytes of a report of a history, and whether the level holds of it
+abbrev pub IsTold : Asked → LevelName → History → List ℕ → Outcome → Type 0
+IsTold asked level h bytes outcome =
+    (report : LevelsReport) × IsReport h asked report × (bytes ≡ report_text report)
+    × IsOutcomeOf level h outcome

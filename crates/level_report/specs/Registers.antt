@@ -11,7 +11,11 @@ pub record AreNumbers (n : ℕ) (ids : List RegId) : Type 0 where
   pub count : length ids ≡ n
   pub each : (i : ℕ) (id : RegId) → slice_get ids i ≡ Some id → id.0 ≡ i
 
--- the line of each register, by its number
-pub record AreLines (h : History) (asked : Asked) (lines : List RegisterLevels) : Type 0 where
-  pub count : length lines ≡ length h.names
+-- the lines of the registers below n, by their numbers
+pub record AreFirstLines (h : History) (asked : Asked) (n : ℕ) (lines : List RegisterLevels) : Type 0 where
+  pub count : length lines ≡ n
   pub each : (r : ℕ) (reg : RegisterLevels) → slice_get lines r ≡ Some reg → IsRegisterLine h asked r reg
+
+-- the line of each register
+abbrev pub AreLines : History → Asked → List RegisterLevels → Type 0
+AreLines h asked lines = AreFirstLines h asked (length h.names) lines

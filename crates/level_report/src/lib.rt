@@ -9,10 +9,11 @@
 //! Read it in this order: `settings`; `operations`, the operations of a register of an arena; `called`, how
 //! many there are; `lines`, operations by lines; `freshness`, the age of values, and `guarantees`, the levels
 //! weaker than atomic; `order`; `register`, the line of one register, and `registers`, of all, by workers
-//! that share them; `totals`, the last line; `outcome`; `whole`, from source to sink; `wording`, why there
-//! is no report.
+//! that share them; `totals`, the last line; `outcome`; `whole`, from source to sink; `alone`, from memory
+//! to memory; `wording`, why there is no report.
 #![tactic(auto)]
 
+mod alone;
 mod called;
 mod freshness;
 mod guarantees;
@@ -28,6 +29,7 @@ mod totals;
 mod whole;
 mod wording;
 
+pub use alone::check_alone;
 pub use byte_ends::{FromReader, FromWriter, IoFail, MemSink, MemSource, Sink, Source};
 pub use level_text::{LevelName, LevelsReport, RegisterLevels, text};
 pub use outcome::Outcome;

@@ -1,10 +1,10 @@
-//! The lines of all registers, by workers that share them.
+//! The lines of all registers, by workers that share them or by the calling thread alone.
 ghost use Rattle.std.specs.Prelude.{◌<◌, ◌^◌, length, IfOk};
 ghost use Rattle.level_report.specs.Meaning.{IsRegisterLine};
 ghost use Rattle.level_report.specs.Registers.{AreLines, AreNumbers};
 
 use crate::register::register_line;
-use crate::settings::Settings;
+use crate::settings::{Asked, Settings};
 use history_model::RegId;
 use level_text::RegisterLevels;
 use parallel::{map_each, share_of};
@@ -46,4 +46,21 @@ pub(crate) fn register_lines(
             ensures { IfOk result (IsRegisterLine arena.entry.now asked id.now.0) }
         { register_line(alloc, arena, *id, asked) },
     )
+}
+
+/// The same by the calling thread alone, which takes one register after another.
+pub(crate) fn register_lines_alone(
+    alloc: Global,
+    arena: &Arena,
+    asked: Asked,
+) -> Result<Vec<RegisterLevels>, AllocError>
+    ensures lines { IfOk result (λ lines. AreLines arena.now asked lines.items) }
+    ensures few { IfOk result (λ lines. length lines.items < 2 ^ 21) }
+{
+    let count = arena.register_count();
+    let mut lines = Vec::with_capacity(alloc, count as usize)?;
+    for number in 0..count {
+        lines.push(register_line(alloc, arena, RegId(number), asked)?)?;
+    }
+    Ok(lines)
 }

@@ -41,6 +41,17 @@ impl Settings {
         })
     }
 
+    /// Settings for the calling thread alone.
+    pub fn alone(required: LevelName, asked: Asked) -> Settings
+        ensures { result ≡ record { workers = 1; required = required; asked = asked } }
+    {
+        Settings {
+            workers: 1,
+            required,
+            asked,
+        }
+    }
+
     /// How many workers share the registers.
     pub(crate) fn workers(self) -> u32
         ensures { result ≡ self.workers }

@@ -2,11 +2,10 @@
 ghost use Rattle.std.specs.Prelude.{◌≡◌, ◌≢◌, ◌⊎◌, ◌-◌, ◌^◌, ◌<◌, ◌↔◌, ℕ, List};
 ghost use Rattle.std.specs.Prelude.{length, Err, IfOk, OnOk, IfErr, IfSome};
 ghost use Rattle.history_text.specs.declared.limits.TheConstants.{MAX_INPUT};
-ghost use Rattle.history_model.specs.History.{IsRecorded};
 ghost use Rattle.reg_intake.specs.Arena.{IsRefusedOf};
 ghost use Rattle.reg_intake.specs.Ends.{IsAll};
-ghost use Rattle.level_report.specs.Answer.{IsAnswerText, IsOutcome};
-ghost use Rattle.level_report.specs.Meaning.{IsReport};
+ghost use Rattle.level_report.specs.Answer.{IsAnswerText, IsOutcome, IsTold};
+ghost use Rattle.level_report.specs.Registers.{AreLines};
 ghost use Rattle.level_report.specs.Run.{IsOfInput, IsRefusedWhole, Reports, ReportsBeginning, Tells};
 
 use crate::outcome::{Outcome, outcome_for};
@@ -14,28 +13,30 @@ use crate::registers::register_lines;
 use crate::settings::Settings;
 use crate::totals::totals;
 use byte_ends::{Sink, Source, deliver};
-use level_text::{LevelsReport, text};
+use level_text::{LevelsReport, RegisterLevels, text};
 use reg_arena::Arena;
 use reg_intake::{Refusal, arena_of};
 use std::alloc::{AllocError, Global};
 use std::random::RandomSource;
 use std::thread::Threads;
 
-/// The report of the history in an arena.
-fn report(
-    rt: &(impl Threads + Sync),
+/// The bytes of the report whose lines are these, and whether the level that is asked for holds.
+pub(crate) fn told(
     alloc: Global,
     arena: &Arena,
+    registers: Vec<RegisterLevels>,
     settings: Settings,
-) -> Result<LevelsReport, AllocError>
-    ensures is { IfOk result (IsReport arena.now settings.asked) }
-    ensures recorded { IfOk result (λ _. IsRecorded arena.now) }
+) -> Result<(Vec<u8>, Outcome), AllocError>
+    requires lines { AreLines arena.now settings.asked registers.items }
+    requires few { length registers.items < 2 ^ 21 }
+    ensures { IfOk result (λ made. IsTold settings.asked settings.required arena.now made.0.items made.1) }
 {
     // Whatever an arena has is recorded; asking it for the number of its events says so.
     let _events = arena.event_count();
-    let registers = register_lines(rt, alloc, arena, settings)?;
     let totals = totals(&registers);
-    Ok(LevelsReport { registers, totals })
+    let report = LevelsReport { registers, totals };
+    let bytes = text(alloc, &report)?;
+    Ok((bytes, outcome_for(&report.totals, settings.required())))
 }
 
 /// The bytes of the report of all the bytes that the source has left, and whether the level that is asked for
@@ -53,9 +54,8 @@ fn answered<T: Threads + RandomSource + Sync, R: Source>(
     ensures err { IfErr result (IsRefusedOf (R.left source.old) (R.failed source.old) (R.failed source.new)) }
 {
     let arena = arena_of(rt, alloc, source)?;
-    let report = report(rt, alloc, &arena, settings)?;
-    let bytes = text(alloc, &report)?;
-    Ok((bytes, outcome_for(&report.totals, settings.required())))
+    let registers = register_lines(rt, alloc, &arena, settings)?;
+    Ok(told(alloc, &arena, registers, settings)?)
 }
 
 /// Checks the history in all the bytes that the source has left, pushes its report on levels, whole, and

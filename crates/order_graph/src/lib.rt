@@ -10,8 +10,6 @@ mod edge;
 mod incoming;
 mod shorter;
 mod sorting;
-#[cfg(test)]
-mod tests;
 mod walk;
 
 pub use edge::Edge;

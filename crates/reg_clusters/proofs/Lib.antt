@@ -5,7 +5,3 @@ pub mod Origins
 pub mod Widening
 pub mod Numbered
 pub mod Tables
-pub mod Spelled
-mod CameBackSpelled
-mod EarlySpelled
-mod UnwrittenSpelled

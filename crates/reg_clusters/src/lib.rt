@@ -22,6 +22,3 @@ mod writes;
 pub use build::cluster_table;
 pub use early::first_early;
 pub use table::{ClusterEnds, ClusterTable};
-
-#[cfg(test)]
-mod tests;

@@ -9,5 +9,3 @@ pub mod Turns
 pub mod OneWriter
 pub mod Regular
 pub mod Zero
-mod ReturnedSpelled
-mod WentBackSpelled

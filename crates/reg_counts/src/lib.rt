@@ -27,6 +27,3 @@ pub use lost::lost_writes;
 pub use measure::{KindCounts, Staleness, measured};
 pub use old_read::OldRead;
 pub use old_reads::{back_reads, inverted_reads, own_missed_reads, stale_reads};
-
-#[cfg(test)]
-mod tests;

@@ -2,4 +2,3 @@ pub mod Passing
 pub mod Listing
 pub mod Deciding
 pub mod Showing
-pub mod StaleRead

@@ -15,8 +15,6 @@ mod extents;
 mod gap;
 pub mod laws;
 mod pass;
-#[cfg(test)]
-mod tests;
 mod widest;
 
 pub use gap::{Gap, gap_of};

@@ -4,13 +4,14 @@
 //! their history; or it answers a [`Refusal`]: that of the first faulty line, too long an input, a source
 //! that failed, or memory that ran out. Too long an input and a failure go before a faulty line and before
 //! memory. A refusal says by its number why there is no report, and which lines are to blame. `OutputFailed`
-//! is for the floor above, which has the sink.
+//! is for the floor above, which has the sink. [`arena_alone`] does the same of bytes in memory by one thread.
 //!
 //! Read it in this order: `refusal`; `pulls`, `buffer` and `intake`, where the bytes come in and are read;
 //! `reader`, which reads ahead, and `block`, how much at once; `underway`, which has it do so by turns; and
-//! `arena`, which has them all taken in.
+//! `arena`, which has them all taken in; `alone`.
 #![tactic(auto)]
 
+mod alone;
 mod arena;
 mod block;
 mod buffer;
@@ -20,5 +21,6 @@ mod reader;
 mod refusal;
 mod underway;
 
+pub use alone::arena_alone;
 pub use arena::arena_of;
 pub use refusal::Refusal;

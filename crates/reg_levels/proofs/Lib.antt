@@ -10,4 +10,3 @@ pub mod Tracing
 pub mod Whole
 pub mod Ordering
 pub mod Reading
-pub mod Worked

@@ -17,8 +17,6 @@ mod initial;
 mod listing;
 mod sessions;
 mod steps;
-#[cfg(test)]
-mod tests;
 
 pub use deciding::decide;
 pub use decision::{Decision, LevelFault, Step};

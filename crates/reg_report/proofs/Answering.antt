@@ -36,25 +36,3 @@ answer-of-arena first input arena report a r =
       a.well_formed,
       subst (λ (h : History). IsReportBy first h report) a.is r,
     )
-
--- what refuses the lines of an input refuses the input
-refused-within : (first : Bool) (input : List ℕ) (e : BuildError) → length input ≤ MAX_INPUT
-    → IsBuildError (history_lines input) e → IsRefused first input (of_build e)
-refused-within first input (Refused r) within refused =
-    inr (answer-within first input (Err (of_build (Refused r))) within refused)
-refused-within first input Memory within refused = inl refl
-
--- the error of a build that is passed on
-pub refused-by-build : {A : Type 0} (first : Bool) (input : List ℕ) (lines : List Line) (e : BuildError)
-    (r : Result A Refusal) → length input ≤ MAX_INPUT → lines ≡ history_lines input → IsBuildError lines e
-    → IsErrAnd r (λ refusal. refusal ≡ of_build e) → IfErr r (IsRefused first input)
-refused-by-build first input lines e (Ok a) within same refused passed = absurd passed
-refused-by-build first input lines e (Err refusal) within same refused passed =
-    subst (IsRefused first input) (sym passed)
-    (refused-within first input e within (subst (λ ls. IsBuildError ls e) same refused))
-
--- running out of memory, which is passed on
-pub refused-without-memory : {A : Type 0} (first : Bool) (input : List ℕ) (r : Result A Refusal)
-    → IsErrAnd r (λ refusal. refusal ≡ NoRoom) → IfErr r (IsRefused first input)
-refused-without-memory first input (Ok a) passed = absurd passed
-refused-without-memory first input (Err refusal) passed = inl passed

@@ -6,9 +6,8 @@ ghost use Rattle.reg_report.specs.Meaning.{IsReport};
 
 use crate::history::history_report;
 use crate::lone_thread::find_one_by_one;
-use history_text::{MAX_INPUT, read_lines_alone};
 use reg_arena::Arena;
-use reg_intake::Refusal;
+use reg_intake::{Refusal, arena_alone};
 use reg_text::Report;
 use std::alloc::{AllocError, Global};
 
@@ -31,10 +30,6 @@ pub fn check_alone(alloc: Global, input: &[u8]) -> Result<Report, Refusal>
     ensures err { IfErr result (IsRefused false input.now) }
     ensures long { MAX_INPUT < length input.now → result ≡ Err Refusal.TooLong }
 {
-    if input.len() > MAX_INPUT {
-        return Err(Refusal::TooLong);
-    }
-    let lines = read_lines_alone(alloc, input)?;
-    let arena = Arena::build(alloc, lines)?;
+    let arena = arena_alone(alloc, input)?;
     Ok(report_alone(alloc, &arena)?)
 }

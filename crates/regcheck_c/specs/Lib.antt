@@ -1,1 +1,4 @@
 pub mod Called
+pub mod Checking
+pub mod Searching
+pub mod Leveling

@@ -1,58 +1,28 @@
-//! The checker for programs in C, and for languages that call C: two functions on bytes. They start no
-//! thread, open no file and keep nothing between calls.
+//! The checkers for programs in C, and for languages that call C: functions on bytes. They start no thread,
+//! open no file and keep nothing between calls.
 //!
-//! What a C program may rely on: [`regcheck_report`] says of the history in its input what `regcheck` would
-//! say, and writes the same report if there is room for all of it. [`regcheck_refusal`] writes what the
-//! program says of a history that it refuses. `library/regcheck.h` declares both.
+//! What a C program may rely on: [`regcheck_report`], [`regsearch_report`] and [`reglevel_report`] say of the
+//! history in their input what the program of that name would say, and write the same report if there is room
+//! for all of it. [`regcheck_refusal`] and [`regsearch_refusal`] write what the program says of a history that
+//! it refuses; what `reglevel` refuses, `regcheck` refuses in the same words. `library/regcheck.h` declares
+//! all of them.
 //!
-//! Read it in this order: `status`, which numbers the endings; `answer`, what a call says; `place`, where
-//! the report or the line of a refusal goes.
+//! Read it in this order: `answer`, what a call says; `place`, where the report or the line of a refusal goes;
+//! `checking`; `bounds`, how far a search goes, and `searching`; `asked`, what a caller's numbers ask for, and
+//! `leveling`.
 #![tactic(auto)]
 
-ghost use Rattle.regcheck_c.specs.Called.{IsAnswered, IsSaidOf, IsWorded, TellsAtomic};
-
 mod answer;
+mod asked;
+mod bounds;
+mod checking;
+mod leveling;
 mod place;
-mod status;
+mod searching;
 #[cfg(test)]
 mod tests;
 
-pub use answer::Answer;
-use answer::refused;
-use place::{put_message, put_report};
-use reg_report::{Refusal, check_alone};
-pub use status::{ATOMIC, NO_MEMORY, NOT_ATOMIC, REFUSED, TOO_SMALL};
-use std::alloc::Global;
-
-/// Checks the history in the input, puts its report at the beginning of `out`, and says in `answer` what came
-/// of it. `out` stays as it was if there is no report, or no room for all of it.
-#[unsafe(no_mangle)]
-pub extern "C" fn regcheck_report(alloc: Global, input: &[u8], out: &mut [u8], answer: &mut Answer)
-    // What is said, and the bytes at `out`, are those of the report or the
-    // refusal of the input, or memory ran out.
-    ensures answered { IsAnswered input.now out.old out.new answer.new }
-
-    // A status of 0 or 1 says whether that history is atomic.
-    ensures atomic { TellsAtomic input.now answer.new.status }
-{
-    *answer = match check_alone(alloc, input) {
-        Ok(report) => put_report(alloc, &report, out),
-        Err(refusal) => refused(&refusal),
-    };
-}
-
-/// Puts the line that `regcheck` writes of a refused input at the beginning of `out`, without its end, if
-/// there is room for all of it. Gives its length, or 0 if the input isn't refused, or if memory ran out.
-#[unsafe(no_mangle)]
-pub extern "C" fn regcheck_refusal(alloc: Global, input: &[u8], out: &mut [u8]) -> usize
-    // This many bytes are put into `out`, or none.
-    ensures worded { IsWorded out.old out.new result }
-
-    // A line is given only for an input that is refused.
-    ensures refused { IsSaidOf input.now result }
-{
-    match check_alone(alloc, input) {
-        Ok(_) | Err(Refusal::NoRoom) => 0,
-        Err(refusal) => put_message(alloc, &refusal, out),
-    }
-}
+pub use answer::{Answer, BAD_NUMBER, NO, NO_MEMORY, REFUSED, TOO_SMALL, UNKNOWN, YES};
+pub use checking::{regcheck_refusal, regcheck_report};
+pub use leveling::reglevel_report;
+pub use searching::{regsearch_refusal, regsearch_report};

@@ -1,10 +1,9 @@
 //! Where a report goes, or the line that says why there is none.
-ghost use Rattle.std.specs.Prelude.{◌≡◌, ◌⊎◌};
-ghost use Rattle.regcheck_c.specs.Called.{IsPut, IsRefusal, IsWorded, with_text};
+ghost use Rattle.std.specs.Prelude.{◌≡◌, IfOk};
+ghost use Rattle.regcheck_c.specs.Called.{IsPut, IsWorded, with_text};
 
-use crate::answer::{Answer, refused, reported};
-use reg_report::{Refusal, Report, message, text};
-use std::alloc::{AllocError, Global};
+use crate::answer::{Answer, TOO_SMALL};
+use std::alloc::AllocError;
 
 /// Puts a text at the beginning of a place that has room for all of it.
 fn put(text: &[u8], out: &mut [u8])
@@ -15,24 +14,29 @@ fn put(text: &[u8], out: &mut [u8])
     }
 }
 
-/// Puts the text of a report, if memory allows.
-pub(crate) fn put_report(alloc: Global, report: &Report, out: &mut [u8]) -> Answer
-    ensures { IsPut report.now out.old out.new result ⊎ IsRefusal Refusal.NoRoom out.old out.new result }
+/// Puts a report, and says so with this status if there was room for it.
+pub(crate) fn put_report(report: &[u8], status: u32, out: &mut [u8]) -> Answer
+    ensures { IsPut report.now status out.old out.new result }
 {
-    match text(alloc, report) {
-        Ok(text) => {
-            put(text.as_slice(), out);
-            reported(report, text.len(), out.len())
-        }
-        Err(AllocError) => refused(&Refusal::NoRoom),
+    put(report, out);
+    Answer {
+        status: if report.len() > out.len() {
+            TOO_SMALL
+        } else {
+            status
+        },
+        number: 0,
+        line: 0,
+        other: 0,
+        length: report.len() as u64,
     }
 }
 
-/// Puts what the program says of a refusal, if memory allows, and gives the length.
-pub(crate) fn put_message(alloc: Global, refusal: &Refusal, out: &mut [u8]) -> usize
+/// Puts what a program says of a refusal, and gives its length; or 0, if memory ran out.
+pub(crate) fn put_message(message: Result<String, AllocError>, out: &mut [u8]) -> usize
     ensures { IsWorded out.old out.new result }
 {
-    match message(alloc, refusal) {
+    match message {
         Ok(line) => {
             let line = line.as_bytes();
             put(line, out);

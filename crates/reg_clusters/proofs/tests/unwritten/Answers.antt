@@ -1,8 +1,0 @@
-use Rattle.reg_clusters.proofs.UnwrittenSpelled.{unwritten-by_call, unwritten-history}
-use Rattle.reg_clusters.proofs.tests.unwritten.Goals as goal
-
-pub returns-clause-history : goal.returns-clause-history
-returns-clause-history c = unwritten-history
-
-pub returns-clause-by_call : goal.returns-clause-by_call
-returns-clause-by_call c = unwritten-by_call

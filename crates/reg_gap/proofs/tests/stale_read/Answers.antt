@@ -1,8 +1,0 @@
-use Rattle.reg_gap.proofs.StaleRead.{stale_read-by_call, stale_read-history}
-use Rattle.reg_gap.proofs.tests.stale_read.Goals as goal
-
-pub returns-clause-history : goal.returns-clause-history
-returns-clause-history c = stale_read-history
-
-pub returns-clause-by_call : goal.returns-clause-by_call
-returns-clause-by_call c = stale_read-by_call

@@ -1,0 +1,47 @@
+//! What the numbers of a caller ask of the levels.
+ghost use Rattle.std.specs.Prelude.{◌≡◌};
+ghost use Rattle.regcheck_c.specs.Leveling.{asked_of, level_of};
+
+use level_report::{Asked, LevelName};
+
+const LEVELS: [LevelName; 6] = [
+    LevelName::Atomic,
+    LevelName::Regular,
+    LevelName::Session,
+    LevelName::OwnWrites,
+    LevelName::Monotonic,
+    LevelName::Sequential,
+];
+
+/// The level of this number, from 0.
+pub(crate) fn level(number: u32) -> Option<LevelName>
+    ensures { result ≡ level_of number }
+{
+    LEVELS.get(number as usize).copied()
+}
+
+const ADDITIONS: [Asked; 4] = [
+    Asked {
+        stale: false,
+        orders: false,
+    },
+    Asked {
+        stale: true,
+        orders: false,
+    },
+    Asked {
+        stale: false,
+        orders: true,
+    },
+    Asked {
+        stale: true,
+        orders: true,
+    },
+];
+
+/// What a report has to say in addition: 1 stands for the stale reads, 2 for an order, and 3 for both.
+pub(crate) fn asked(number: u32) -> Option<Asked>
+    ensures { result ≡ asked_of number }
+{
+    ADDITIONS.get(number as usize).copied()
+}
