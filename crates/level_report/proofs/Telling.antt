@@ -40,7 +40,7 @@ use Rattle.level_text.specs.declared.report.LevelName.TheVariants.{OwnWrites, Mo
 use Rattle.level_text.specs.declared.report.LevelsReport.{LevelsReport}
 use Rattle.level_text.specs.declared.report.RegisterLevels.{RegisterLevels}
 use Rattle.level_report.specs.Answer.{IsAnswer, IsAnswerText, IsAnswerToLines, IsOutcome, IsOutcomeOf}
-use Rattle.level_report.specs.Answer.{IsTold}
+use Rattle.level_report.specs.Answer.{IsAnswerOf}
 use Rattle.level_report.specs.declared.outcome.Outcome.{Outcome}
 use Rattle.level_report.specs.declared.outcome.Outcome.TheVariants.{Kept, Broken}
 use Rattle.level_text.specs.declared.report.Totals.{Totals}
@@ -274,10 +274,10 @@ answer-to asked input arena report read is =
     (read.well_formed, subst (λ h. IsReport h asked report) read.is is)
 
 -- what is told of an input's arena is told of the input
-pub told-of : (asked : Asked) (level : LevelName) (input : List ℕ) (arena : History) (bytes : List ℕ)
-    (outcome : Outcome) → IsArenaOf input arena → IsTold asked level arena bytes outcome
+pub answer-of : (asked : Asked) (level : LevelName) (input : List ℕ) (arena : History) (bytes : List ℕ)
+    (outcome : Outcome) → IsArenaOf input arena → IsAnswerOf asked level arena bytes outcome
     → IsAnswerText asked input bytes × IsOutcome level input outcome
-told-of asked level input arena bytes outcome read told = (
+answer-of asked level input arena bytes outcome read told = (
   (told.0, answer-to asked input arena told.0 read told.1, told.2),
   subst (λ h. IsOutcomeOf level h outcome) read.is told.3,
 )
