@@ -29,7 +29,8 @@ pub(crate) fn answer_of(
 ) -> Result<(Vec<u8>, Outcome), AllocError>
     requires lines { AreLines arena.now settings.asked registers.items }
     requires few { length registers.items < 2 ^ 21 }
-    ensures { IfOk result (λ made. IsAnswerOf settings.asked settings.required arena.now made.0.items made.1) }
+    ensures { IfOk result (λ made.
+        IsAnswerOf settings.asked settings.required arena.now made.0.items made.1) }
 {
     // Whatever an arena has is recorded; asking it for the number of its events says so.
     let _events = arena.event_count();
