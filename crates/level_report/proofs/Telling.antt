@@ -1,9 +1,9 @@
 -- What a report says of a level holds, of each register and so of all.
-use Rattle.std.proofs.Common.{◌≡◌, ◌∙◌, ◌⊎◌, inl, inr, ℕ, zero, suc, ◌<◌, ◌≤◌, Bool, true, false, List, []}
+use Rattle.std.proofs.Common.{◌≡◌, ◌∙◌, ◌⊎◌, inl, inr, ℕ, zero, suc, Bool, true, false, List, []}
 use Rattle.std.proofs.Common.{◌∷◌}
 use Rattle.std.proofs.Common.{length, slice_get, Option, Some, None, Result, Ok, Err, is_none, refl, sym, ap}
 use Rattle.std.proofs.Common.{subst, arith, cond, ◌&&◌, unwrap_or}
-use Rattle.std.specs.Prelude.{◌↔◌, IsTrue, MatchBool}
+use Rattle.std.specs.Prelude.{◌↔◌, MatchBool}
 use Rattle.std.specs.List.{list_all}
 use Rattle.std.proofs.lemmas.Bool.{le-ltb, and_parts}
 use Rattle.std.proofs.lemmas.Option.{slice_get_within}
@@ -44,10 +44,8 @@ use Rattle.level_report.specs.Answer.{IsAnswerOf}
 use Rattle.level_report.specs.declared.outcome.Outcome.{Outcome}
 use Rattle.level_report.specs.declared.outcome.Outcome.TheVariants.{Kept, Broken}
 use Rattle.level_text.specs.declared.report.Totals.{Totals}
-use Rattle.history_model.specs.History.{history_of}
-use Rattle.history_model.specs.Refusals.{events_of}
 use Rattle.level_report.specs.Freshness.{IsFreshness}
-use Rattle.level_report.specs.Guarantees.{AreGuarantees, IsSession, IsVerdict}
+use Rattle.level_report.specs.Guarantees.{IsSession, IsVerdict}
 use Rattle.level_report.specs.Meaning.{EachHolds, Holds, IsRegisterLine, IsReport}
 use Rattle.level_report.specs.Totals.{all_say, AreTotals, half_of, says, totals_say}
 use Rattle.level_report.specs.declared.settings.Asked.{Asked}
