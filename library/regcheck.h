@@ -82,8 +82,8 @@ void reglevel_report(const uint8_t *input, size_t input_length, uint32_t level, 
                      size_t out_length, regcheck_answer *answer);
 
 /* Puts the line that the programs `regcheck` and `reglevel` write of a history that they refuse at the
-   beginning of the `out_length` bytes at `out`, without a line end or a null byte, and returns its length: 0 if the
-   history isn't refused, or if memory ran out. If there is no room for all of it, the bytes at `out`
+   beginning of the `out_length` bytes at `out`, without a line end or a null byte, and returns its length: 0
+   if the history isn't refused, or if memory ran out. If there is no room for all of it, the bytes at `out`
    stay as they were. REGCHECK_LINE_LENGTH bytes are always enough. What a caller of regcheck_report owes
    holds here too. */
 size_t regcheck_refusal(const uint8_t *input, size_t input_length, uint8_t *out, size_t out_length);
