@@ -96,8 +96,7 @@ library: $(LIBRARY)/libregcheck.a $(LIBRARY)/libregcheck.so bin/regcheck.pc bin/
 CALLS := regcheck_report regcheck_refusal regsearch_report regsearch_refusal reglevel_report
 
 # The archive of a static library leaves out the C part of the toolchain's allocator; here it is put in, and
-# its names are hidden, so that nothing but the calls can clash with a name of the program that
-# links it.
+# its names are hidden, so that nothing but the calls can clash with a name of the program that links it.
 bin/libregcheck.a: $(SOURCES) crates.txt
 	cd crates/regcheck_c && $(CURDIR)/packaging/prove $(CURDIR)/bin/regcheck_c.log rt lib
 	ld -r $(CALLS:%=-u %) -o bin/libregcheck.o crates/regcheck_c/out/libregcheck_c.a \
@@ -132,7 +131,7 @@ bin/regcheck.pc: library/regcheck.pc.in VERSION
 	mkdir -p bin
 	sed 's|@VERSION@|$(VERSION)|' library/regcheck.pc.in > $@
 
-embed-test: library bin/regcheck bin/regsearch bin/history_generator
+embed-test: library $(PROGRAMS:%=bin/%) bin/history_generator
 	tests/embed --count $(COUNT)
 	tests/languages
 
