@@ -32,7 +32,7 @@ examples:
   regkit levels --page levels.html history.jsonl      draws it too: when stale reads came, and each fault
   regkit levels store/latest/history.edn              a file of any form that `regkit convert` takes
 
-It runs reglevel, which takes the histories that regcheck takes. docs/levels.md explains the levels:
+It asks reglevel, which takes the histories that regcheck takes. docs/levels.md explains the levels:
   atomic      linearizable: each read gives the latest write
   regular     no read is stale: none misses a write that ended before it began
   session     writes in real time; each session sees its own operations in order
