@@ -90,26 +90,33 @@ bin/history_generator: $(SOURCES) crates.txt
 		$(CURDIR)/packaging/prove $(CURDIR)/bin/history_generator.log rt run -- sequential
 	cp crates/history_generator/out/history_generator bin/history_generator
 
-library: $(LIBRARY)/libregcheck.a $(LIBRARY)/libregcheck.so bin/regcheck.pc bin/regcheck.h
+library: $(LIBRARY)/libregcheck.a $(LIBRARY)/libregcheck.so $(LIBRARY)/regcheck.h bin/regcheck.pc
 
 # The names of the library, which library/regcheck.map has too.
 CALLS := regcheck_report regcheck_refusal regsearch_report regsearch_refusal reglevel_report
 
-# The archive of a static library leaves out the C part of the toolchain's allocator; here it is put in, and
-# its names are hidden, so that nothing but the calls can clash with a name of the program that links it.
-bin/libregcheck.a: $(SOURCES) crates.txt
-	cd crates/regcheck_c && $(CURDIR)/packaging/prove $(CURDIR)/bin/regcheck_c.log rt lib
-	ld -r $(CALLS:%=-u %) -o bin/libregcheck.o crates/regcheck_c/out/libregcheck_c.a \
-	    "$$(dirname "$$(rt doc)")/c/liblibc_c.a"
+# What a release is made from, for either machine: the object of each program, and the archive of the
+# library, which stands on no crate that no program stands on.
+$(PROGRAMS:%=bin/amd64/%.o): bin/amd64/%.o: bin/% packaging/compile
+	packaging/compile $* amd64 $@
+
+$(PROGRAMS:%=bin/arm64/%.o): bin/arm64/%.o: bin/% packaging/compile
+	packaging/compile $* arm64 $@
+
+bin/amd64/libregcheck_c.a bin/arm64/libregcheck_c.a: bin/%/libregcheck_c.a: $(PROGRAMS:%=bin/%) \
+		packaging/compile
+	packaging/compile regcheck_c $* $@
+
+# The archive leaves out the C part of the toolchain's allocator; here it is put in, and its names are hidden,
+# so that nothing but the calls can clash with a name of the program that links it.
+bin/libregcheck.a: bin/amd64/libregcheck_c.a
+	ld -r $(CALLS:%=-u %) -o bin/libregcheck.o $^ "$$(dirname "$$(rt doc)")/c/liblibc_c.a"
 	objcopy $(CALLS:%=--keep-global-symbol=%) bin/libregcheck.o
 	rm -f $@
 	ar rcsD $@ bin/libregcheck.o
 
-# The same for ARM64, over what the rule above proved.
-bin/arm64/libregcheck.a: bin/libregcheck.a bin/arm64/heap.o packaging/compile_arm64
-	packaging/compile_arm64 regcheck_c bin/arm64/libregcheck_c.a
-	$(CROSS)ld -r $(CALLS:%=-u %) -o bin/arm64/libregcheck.o bin/arm64/libregcheck_c.a \
-	    bin/arm64/heap.o
+bin/arm64/libregcheck.a: bin/arm64/libregcheck_c.a bin/arm64/heap.o
+	$(CROSS)ld -r $(CALLS:%=-u %) -o bin/arm64/libregcheck.o $^
 	$(CROSS)objcopy $(CALLS:%=--keep-global-symbol=%) bin/arm64/libregcheck.o
 	rm -f $@
 	$(CROSS)ar rcsD $@ bin/arm64/libregcheck.o
@@ -124,7 +131,7 @@ bin/arm64/heap.o bin/arm64/words.o: bin/arm64/%.o: packaging/arm64/%.c
 	$(CROSS)gcc -O2 -fPIC -Wall -Wextra -c $< -o $@
 
 # The header stands beside the library, as in a release: what finds one finds both.
-bin/regcheck.h: library/regcheck.h bin/libregcheck.a
+$(LIBRARY)/regcheck.h: library/regcheck.h $(LIBRARY)/libregcheck.a
 	cp $< $@
 
 bin/regcheck.pc: library/regcheck.pc.in VERSION
@@ -222,18 +229,8 @@ install-library: library
 	ln -sf $(SONAME) $(DESTDIR)$(PREFIX)/lib/libregcheck.so
 	install -D -m 644 -t $(DESTDIR)$(PREFIX)/lib/pkgconfig bin/regcheck.pc
 
-# Where `rt ci` takes from the machine what an earlier run proved, it may leave no object.
-$(foreach program,$(PROGRAMS),crates/$(program)/out/$(program).o): %.o: | $(PROGRAMS:%=bin/%)
-	cd $(@D)/.. && $(CURDIR)/packaging/prove $(CURDIR)/bin/object.log rt run < stdin
-
-bin/static/regcheck: crates/regcheck/out/regcheck.o
-bin/static/regsearch: crates/regsearch/out/regsearch.o
-bin/static/reglevel: crates/reglevel/out/reglevel.o
-$(PROGRAMS:%=bin/static/%): bin/static/%: bin/% packaging/link_static
-	packaging/link_static crates/$*/out/$*.o $@
-
-$(PROGRAMS:%=bin/arm64/%.o): bin/arm64/%.o: bin/% packaging/compile_arm64
-	packaging/compile_arm64 $* $@
+$(PROGRAMS:%=bin/static/%): bin/static/%: bin/amd64/%.o packaging/link_static
+	packaging/link_static $< $@
 
 $(PROGRAMS:%=bin/arm64/%): %: %.o bin/arm64/heap.o bin/arm64/words.o packaging/link_static
 	CC=$(CROSS)gcc STRIP=$(CROSS)strip packaging/link_static $< $@ "bin/arm64/heap.o bin/arm64/words.o"

@@ -258,7 +258,7 @@ class RefusedParts(HandMade):
         numbers = {*range(1, 20)}
         programs = [(numbers, TEXTS), ((numbers - {REPEATED}) | {20, 21, 22}, of_search)]
         for column, (expected, texts) in enumerate(programs):
-            table = {int(row[column]): row[3].replace(" at line N", "")
+            table = {int(row[column]): row[2].replace(" at line N", "")
                      for row in rows if len(row) == 4 and row[column].isdigit()}
             self.assertEqual(set(table), expected)
             for number, words in texts.items():

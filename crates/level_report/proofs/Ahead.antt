@@ -1,6 +1,6 @@
 -- Sums and maxima over the lines of registers, one line after another.
 use Rattle.std.proofs.Common.{◌≡◌, ℕ, zero, suc, ◌+◌, ◌<◌, List, [], ◌∷◌, length, map, drop, get_or, max}
-use Rattle.std.proofs.Common.{Option, unwrap_or, refl, sym, ap, ◌∙◌, arith}
+use Rattle.std.proofs.Common.{Option, unwrap_or, sym, ap, arith}
 use Rattle.reg_zones.specs.Clusters.{greatest}
 use Rattle.level_text.specs.declared.report.RegisterLevels.{RegisterLevels}
 use Rattle.level_report.specs.Totals.{events_of_gap, total}

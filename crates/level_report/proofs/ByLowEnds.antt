@@ -1,7 +1,7 @@
 -- Without a conflict the clusters by low ends are in an order that keeps atomic.
-use Rattle.std.proofs.Common.{◌≡◌, ◌∙◌, ◌⊎◌, inl, inr, ℕ, zero, suc, ◌+◌, ◌<◌, ◌≤◌, ◌==◌, Bool, false, List}
+use Rattle.std.proofs.Common.{◌≡◌, ◌∙◌, inl, inr, ℕ, zero, suc, ◌+◌, ◌<◌, ◌==◌, Bool, false, List}
 use Rattle.std.proofs.Common.{[]}
-use Rattle.std.proofs.Common.{◌∷◌, ◌++◌, All, AllPairs, length, map, min, slice_get, get_or, option_map}
+use Rattle.std.proofs.Common.{◌∷◌, ◌++◌, AllPairs, map, min, slice_get, get_or, option_map}
 use Rattle.std.proofs.Common.{Option, Some, refl, sym}
 use Rattle.std.proofs.Common.{ap, subst, arith}
 use Rattle.std.proofs.lemmas.Bool.{cases_Bool, cases_order, eq-eqb, false≢true}
@@ -11,26 +11,25 @@ use Rattle.std.proofs.lemmas.Map.Keys.{IsDistinct-from_apart, IsDistinct-IsPermu
 use Rattle.std.proofs.lemmas.List.Sorted.{Contains-permutation, IsPermutation-sym}
 use Rattle.std.specs.List.Sorted.{IsNonDecreasingBy, IsPermutation}
 use Rattle.history_model.specs.Legal.{IsAtomic}
-use Rattle.history_model.specs.Lists.{Before, In}
+use Rattle.history_model.specs.Lists.{In}
 use Rattle.history_model.specs.Operations.{IsHistory, value_of}
 use Rattle.history_model.specs.declared.guarantee.Guarantee.TheVariants as guarantee
 use Rattle.history_model.specs.declared.operation.Operation.{Operation}
-use Rattle.history_model.proofs.Indexes.{Before-from_pairs, Contains-from_In, In-from_Contains}
+use Rattle.history_model.proofs.Indexes.{Contains-from_In, In-from_Contains}
 use Rattle.history_model.proofs.Lists.{slice_get-In, slice_get_inside}
 use Rattle.reg_zones.specs.Clusters.{IsKept}
 use Rattle.reg_zones.proofs.Ends.{first_reply-le, last_call-le}
-use Rattle.level_laws.specs.WriteOrders.{IsWriteOrder}
 use Rattle.level_laws.specs.Evidence.Evidence.{cycle}
 use Rattle.level_laws.specs.Leads.{LeadsTo}
 use Rattle.level_laws.proofs.Refuted.{clean, refuted}
 use Rattle.order_graph.proofs.Places.{place-same}
-use Rattle.reg_clusters.specs.Places.{IsAt, IsByCall}
+use Rattle.reg_clusters.specs.Places.{IsByCall}
 use Rattle.reg_clusters.specs.Table.{IsClusterTable, IsEnds}
 use Rattle.reg_clusters.specs.declared.table.ClusterEnds.{ClusterEnds}
 use Rattle.reg_clusters.proofs.Places.{at-In}
 use Rattle.reg_gap.proofs.Passing.{get-is, get-of}
 use Rattle.reg_clusters.proofs.Pushes.{get-below, get-push_cases, get-read, length-push}
-use Rattle.reg_levels.specs.Decisions.{write_of_cluster, writes_of}
+use Rattle.reg_levels.specs.Decisions.{write_of_cluster}
 use Rattle.reg_levels.proofs.Numbering.{same_cluster}
 use Rattle.reg_levels.proofs.Ordering.{at-write, Before-filter_map, In-filter_map, filter_map-Before}
 use Rattle.reg_levels.proofs.Ordering.{filter_map-In, write-at}

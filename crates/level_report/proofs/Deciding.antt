@@ -23,7 +23,7 @@ use Rattle.level_text.specs.declared.report.FaultLines.{FaultLines}
 use Rattle.level_text.specs.declared.report.FaultLines.TheVariants.{Unwritten, Cycle}
 use Rattle.level_text.specs.declared.report.LevelName.{LevelName}
 use Rattle.level_text.specs.declared.report.LevelName.TheVariants as level
-use Rattle.level_report.specs.Guarantees.{AreGuarantees, AreHalves, IsFaultShown, IsGuaranteeOf, IsVerdict}
+use Rattle.level_report.specs.Guarantees.{AreGuarantees, IsFaultShown, IsGuaranteeOf, IsVerdict}
 use Rattle.level_report.specs.Guarantees.{or_else, ShowsEvidence, step_lines, strongest, write_line}
 use Rattle.level_report.specs.Lines.{line_of, step_of}
 use Rattle.level_report.specs.Ordered.{AreClustersFor, every_guarantee, guarantees_found, IsFound}

@@ -1,11 +1,9 @@
 -- A walk over the events of a register lists its operations.
 use Rattle.std.proofs.Common.{◌≡◌, ℕ, zero, suc, ◌+◌, ◌<◌, ◌≤◌, ◌==◌, cond, Bool, true, false, List, [], ◌∷◌}
-use Rattle.std.proofs.Common.{◌++◌, length, Option, Some, None, refl, sym, ap, subst, ◌∙◌, arith}
+use Rattle.std.proofs.Common.{◌++◌, length, Option, Some, None, refl, sym, ap, ◌∙◌, arith}
 use Rattle.std.proofs.Common.{append_assoc, append-nil, is_some, unwrap_or, slice_get}
 use Rattle.std.proofs.lemmas.Bool.{eqb-false, eqb-true}
 use Rattle.std.proofs.lemmas.List.Elements.{filter-append}
-use Rattle.history_text.specs.declared.event.OpKind.{OpKind}
-use Rattle.history_text.specs.declared.event.Val.{Val}
 use Rattle.history_model.specs.Acts.{is_plain, kind_of_act, plain_act, value_of_act}
 use Rattle.history_model.specs.History.{History, IsRecorded}
 use Rattle.history_model.specs.Operations.{calls, initial_write, initial_writes, of_register, operation}

@@ -1,9 +1,9 @@
 -- What a report says of a level holds, of each register and so of all.
-use Rattle.std.proofs.Common.{◌≡◌, ◌∙◌, ◌⊎◌, inl, inr, ℕ, zero, suc, ◌<◌, ◌≤◌, Bool, true, false, List, []}
+use Rattle.std.proofs.Common.{◌≡◌, ◌∙◌, ◌⊎◌, inl, inr, ℕ, zero, suc, Bool, true, false, List, []}
 use Rattle.std.proofs.Common.{◌∷◌}
 use Rattle.std.proofs.Common.{length, slice_get, Option, Some, None, Result, Ok, Err, is_none, refl, sym, ap}
 use Rattle.std.proofs.Common.{subst, arith, cond, ◌&&◌, unwrap_or}
-use Rattle.std.specs.Prelude.{◌↔◌, IsTrue, MatchBool}
+use Rattle.std.specs.Prelude.{◌↔◌, MatchBool}
 use Rattle.std.specs.List.{list_all}
 use Rattle.std.proofs.lemmas.Bool.{le-ltb, and_parts}
 use Rattle.std.proofs.lemmas.Option.{slice_get_within}
@@ -40,14 +40,12 @@ use Rattle.level_text.specs.declared.report.LevelName.TheVariants.{OwnWrites, Mo
 use Rattle.level_text.specs.declared.report.LevelsReport.{LevelsReport}
 use Rattle.level_text.specs.declared.report.RegisterLevels.{RegisterLevels}
 use Rattle.level_report.specs.Answer.{IsAnswer, IsAnswerText, IsAnswerToLines, IsOutcome, IsOutcomeOf}
-use Rattle.level_report.specs.Answer.{IsTold}
+use Rattle.level_report.specs.Answer.{IsAnswerOf}
 use Rattle.level_report.specs.declared.outcome.Outcome.{Outcome}
 use Rattle.level_report.specs.declared.outcome.Outcome.TheVariants.{Kept, Broken}
 use Rattle.level_text.specs.declared.report.Totals.{Totals}
-use Rattle.history_model.specs.History.{history_of}
-use Rattle.history_model.specs.Refusals.{events_of}
 use Rattle.level_report.specs.Freshness.{IsFreshness}
-use Rattle.level_report.specs.Guarantees.{AreGuarantees, IsSession, IsVerdict}
+use Rattle.level_report.specs.Guarantees.{IsSession, IsVerdict}
 use Rattle.level_report.specs.Meaning.{EachHolds, Holds, IsRegisterLine, IsReport}
 use Rattle.level_report.specs.Totals.{all_say, AreTotals, half_of, says, totals_say}
 use Rattle.level_report.specs.declared.settings.Asked.{Asked}
@@ -274,10 +272,10 @@ answer-to asked input arena report read is =
     (read.well_formed, subst (λ h. IsReport h asked report) read.is is)
 
 -- what is told of an input's arena is told of the input
-pub told-of : (asked : Asked) (level : LevelName) (input : List ℕ) (arena : History) (bytes : List ℕ)
-    (outcome : Outcome) → IsArenaOf input arena → IsTold asked level arena bytes outcome
+pub answer-of : (asked : Asked) (level : LevelName) (input : List ℕ) (arena : History) (bytes : List ℕ)
+    (outcome : Outcome) → IsArenaOf input arena → IsAnswerOf asked level arena bytes outcome
     → IsAnswerText asked input bytes × IsOutcome level input outcome
-told-of asked level input arena bytes outcome read told = (
+answer-of asked level input arena bytes outcome read told = (
   (told.0, answer-to asked input arena told.0 read told.1, told.2),
   subst (λ h. IsOutcomeOf level h outcome) read.is told.3,
 )

@@ -1,5 +1,5 @@
 -- The answer to an input.
-use Rattle.std.specs.Prelude.{◌≡◌, ◌⊎◌, ◌↔◌, ℕ, List, length, nat_lt, MatchBool, Result, Ok, Err}
+use Rattle.std.specs.Prelude.{◌≡◌, ◌⊎◌, ℕ, List, length, nat_lt, MatchBool, Result, Ok, Err}
 use Rattle.history_text.specs.declared.limits.TheConstants.{MAX_INPUT}
 use Rattle.history_text.specs.Reading.{history_lines}
 use Rattle.history_model.specs.Refusals.{Line, IsRefusal, IsWellFormed, events_of}
@@ -51,7 +51,7 @@ abbrev pub IsOutcome : LevelName → List ℕ → Outcome → Type 0
 IsOutcome level input outcome = IsOutcomeOf level (history_of (events_of (history_lines input))) outcome
 
 -- the bytes of a report of a history, and whether the level holds of it
-abbrev pub IsTold : Asked → LevelName → History → List ℕ → Outcome → Type 0
-IsTold asked level h bytes outcome =
+abbrev pub IsAnswerOf : Asked → LevelName → History → List ℕ → Outcome → Type 0
+IsAnswerOf asked level h bytes outcome =
     (report : LevelsReport) × IsReport h asked report × (bytes ≡ report_text report)
     × IsOutcomeOf level h outcome

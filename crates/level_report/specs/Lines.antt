@@ -1,5 +1,5 @@
 -- Operations by the lines of their calls.
-use Rattle.std.specs.Prelude.{◌≡◌, ℕ, List, map, slice_get, unwrap_or, option_map}
+use Rattle.std.specs.Prelude.{ℕ, List, slice_get, unwrap_or, option_map}
 use Rattle.history_model.specs.declared.operation.Operation.{Operation}
 use Rattle.reg_counts.specs.declared.old_read.OldRead.{OldRead}
 use Rattle.reg_gap.specs.declared.gap.Gap.{Gap}

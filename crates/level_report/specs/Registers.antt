@@ -1,5 +1,5 @@
 -- The lines of the registers of a history.
-use Rattle.std.specs.Prelude.{◌≡◌, ◌<◌, ℕ, List, length, slice_get, Some}
+use Rattle.std.specs.Prelude.{◌≡◌, ℕ, List, length, slice_get, Some}
 use Rattle.history_model.specs.History.{History}
 use Rattle.history_model.specs.declared.ids.RegId.{RegId}
 use Rattle.level_text.specs.declared.report.RegisterLevels.{RegisterLevels}

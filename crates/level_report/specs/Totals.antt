@@ -1,5 +1,5 @@
 -- What the summary of a report says, by the lines of the registers.
-use Rattle.std.specs.Prelude.{◌≡◌, ◌+◌, ◌&&◌, ℕ, Bool, true, false, List, [], ◌∷◌, length, map}
+use Rattle.std.specs.Prelude.{◌≡◌, ◌+◌, ◌&&◌, ℕ, Bool, true, List, [], ◌∷◌, length, map}
 use Rattle.std.specs.Prelude.{not, cond, nat_lt, is_none, unwrap_or, option_map, Option, Some, None}
 use Rattle.std.specs.List.{list_all}
 use Rattle.reg_zones.specs.Clusters.{greatest}

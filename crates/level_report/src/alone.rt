@@ -6,7 +6,7 @@ ghost use Rattle.level_report.specs.Answer.{IsAnswerText, IsOutcome, IsRefused};
 use crate::outcome::Outcome;
 use crate::registers::register_lines_alone;
 use crate::settings::Settings;
-use crate::whole::told;
+use crate::whole::answer_of;
 use reg_intake::{Refusal, arena_alone};
 use std::alloc::Global;
 
@@ -30,5 +30,5 @@ pub fn check_alone(
 {
     let arena = arena_alone(alloc, input)?;
     let registers = register_lines_alone(alloc, &arena, settings.asked())?;
-    Ok(told(alloc, &arena, registers, settings)?)
+    Ok(answer_of(alloc, &arena, registers, settings)?)
 }

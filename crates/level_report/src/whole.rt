@@ -4,7 +4,7 @@ ghost use Rattle.std.specs.Prelude.{length, Err, IfOk, OnOk, IfErr, IfSome};
 ghost use Rattle.history_text.specs.declared.limits.TheConstants.{MAX_INPUT};
 ghost use Rattle.reg_intake.specs.Arena.{IsRefusedOf};
 ghost use Rattle.reg_intake.specs.Ends.{IsAll};
-ghost use Rattle.level_report.specs.Answer.{IsAnswerText, IsOutcome, IsTold};
+ghost use Rattle.level_report.specs.Answer.{IsAnswerText, IsOutcome, IsAnswerOf};
 ghost use Rattle.level_report.specs.Registers.{AreLines};
 ghost use Rattle.level_report.specs.Run.{IsOfInput, IsRefusedWhole, Reports, ReportsBeginning, Tells};
 
@@ -21,7 +21,7 @@ use std::random::RandomSource;
 use std::thread::Threads;
 
 /// The bytes of the report whose lines are these, and whether the level that is asked for holds.
-pub(crate) fn told(
+pub(crate) fn answer_of(
     alloc: Global,
     arena: &Arena,
     registers: Vec<RegisterLevels>,
@@ -29,7 +29,8 @@ pub(crate) fn told(
 ) -> Result<(Vec<u8>, Outcome), AllocError>
     requires lines { AreLines arena.now settings.asked registers.items }
     requires few { length registers.items < 2 ^ 21 }
-    ensures { IfOk result (λ made. IsTold settings.asked settings.required arena.now made.0.items made.1) }
+    ensures { IfOk result (λ made.
+        IsAnswerOf settings.asked settings.required arena.now made.0.items made.1) }
 {
     // Whatever an arena has is recorded; asking it for the number of its events says so.
     let _events = arena.event_count();
@@ -55,7 +56,7 @@ fn answered<T: Threads + RandomSource + Sync, R: Source>(
 {
     let arena = arena_of(rt, alloc, source)?;
     let registers = register_lines(rt, alloc, &arena, settings)?;
-    Ok(told(alloc, &arena, registers, settings)?)
+    Ok(answer_of(alloc, &arena, registers, settings)?)
 }
 
 /// Checks the history in all the bytes that the source has left, pushes its report on levels, whole, and

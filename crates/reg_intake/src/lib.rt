@@ -4,7 +4,8 @@
 //! their history; or it answers a [`Refusal`]: that of the first faulty line, too long an input, a source
 //! that failed, or memory that ran out. Too long an input and a failure go before a faulty line and before
 //! memory. A refusal says by its number why there is no report, and which lines are to blame. `OutputFailed`
-//! is for the floor above, which has the sink. [`arena_alone`] does the same of bytes in memory by one thread.
+//! is for the floor above, which has the sink. [`arena_alone`] does the same of bytes in memory, by one
+//! thread.
 //!
 //! Read it in this order: `refusal`; `pulls`, `buffer` and `intake`, where the bytes come in and are read;
 //! `reader`, which reads ahead, and `block`, how much at once; `underway`, which has it do so by turns; and

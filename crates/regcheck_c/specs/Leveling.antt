@@ -25,8 +25,8 @@ additions =
     (record { stale = false; orders = false }) ∷ (record { stale = true; orders = false })
     ∷ (record { stale = false; orders = true }) ∷ (record { stale = true; orders = true }) ∷ []
 
-abbrev pub asked_of : ℕ → Option Asked
-asked_of number = slice_get additions number
+abbrev pub addition_of : ℕ → Option Asked
+addition_of number = slice_get additions number
 
 -- the status of a report that there is room for
 abbrev pub status_of_outcome : Outcome → ℕ
@@ -54,7 +54,7 @@ IsAnsweredBy (Some level) None input old new answer = (answer ≡ bad_number) ×
 
 abbrev pub IsAnswered : List ℕ → ℕ → ℕ → List ℕ → List ℕ → Answer → Type 0
 IsAnswered input level more old new answer =
-    IsAnsweredBy (level_of level) (asked_of more) input old new answer
+    IsAnsweredBy (level_of level) (addition_of more) input old new answer
 
 -- the status of an input's answer says whether the level holds of its history, if it says either
 pub record TellsOf (level : LevelName) (input : List ℕ) (status : ℕ) : Type 0 where

@@ -1,6 +1,6 @@
 //! What the numbers of a caller ask of the levels.
 ghost use Rattle.std.specs.Prelude.{◌≡◌};
-ghost use Rattle.regcheck_c.specs.Leveling.{asked_of, level_of};
+ghost use Rattle.regcheck_c.specs.Leveling.{addition_of, level_of};
 
 use level_report::{Asked, LevelName};
 
@@ -41,7 +41,7 @@ const ADDITIONS: [Asked; 4] = [
 
 /// What a report has to say in addition: 1 stands for the stale reads, 2 for an order, and 3 for both.
 pub(crate) fn asked(number: u32) -> Option<Asked>
-    ensures { result ≡ asked_of number }
+    ensures { result ≡ addition_of number }
 {
     ADDITIONS.get(number as usize).copied()
 }

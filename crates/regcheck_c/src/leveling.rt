@@ -52,12 +52,10 @@ pub extern "C" fn reglevel_report(
     ensures level { TellsLevel input.now required answer.new.status }
 {
     *answer = match (level(required), asked(more)) {
-        (Some(required), Some(asked)) => answered(
-            alloc,
-            input,
-            Settings::alone(required, asked),
-            out,
-        ),
+        (Some(level), Some(asked)) => {
+            let settings = Settings::alone(level, asked);
+            answered(alloc, input, settings, out)
+        }
         _ => not_understood(),
     };
 }

@@ -1,7 +1,8 @@
 //! The calls that say what `regsearch` says.
 ghost use Rattle.std.specs.Prelude.{◌≡◌, IfErr, IfOk};
 ghost use Rattle.regcheck_c.specs.Called.{IsWorded};
-ghost use Rattle.regcheck_c.specs.Searching.{IsAnswered, IsReported, IsSaidOf, TellsAtomic, status_of_outcome};
+ghost use Rattle.regcheck_c.specs.Searching.{IsAnswered, IsReported, IsSaidOf, TellsAtomic};
+ghost use Rattle.regcheck_c.specs.Searching.{status_of_outcome};
 ghost use Rattle.search_report.specs.Answer.{IsRefused};
 
 use crate::answer::{Answer, NO, UNKNOWN, YES, refused};

@@ -1,5 +1,4 @@
-use Rattle.std.proofs.Common.{◌∙◌, ap, map, subst, sym}
-use Rattle.level_laws.specs.Evidence.{Evidence}
+use Rattle.std.proofs.Common.{◌∙◌, ap, map, subst}
 use Rattle.reg_levels.specs.Decisions.{IsFaultOf}
 use Rattle.reg_levels.specs.declared.decision.Step.{Step}
 use Rattle.level_report.specs.Lines.{line_of, step_of}

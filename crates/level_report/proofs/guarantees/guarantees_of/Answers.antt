@@ -1,4 +1,4 @@
-use Rattle.std.proofs.Common.{false, subst, sym, ap, ◌∙◌}
+use Rattle.std.proofs.Common.{false, subst, sym, ◌∙◌}
 use Rattle.level_laws.proofs.Weaker.{atomic-session}
 use Rattle.level_report.specs.Guarantees.{AreGuarantees, IsVerdict, strongest}
 use Rattle.history_model.specs.declared.guarantee.Guarantee.TheVariants as guarantee

@@ -1,11 +1,10 @@
 use Rattle.std.specs.Global.{Global}
 use Rattle.std.specs.Prelude.{Vec}
-use Rattle.std.proofs.Common.{false, arith, ◌≡◌, ◌≤◌, ◌<◌, ◌+◌, ◌++◌, ◌∷◌, [], List, cond, subst, sym, ◌∙◌}
-use Rattle.std.proofs.Common.{ap, refl, length, true}
-use Rattle.history_model.specs.Operations.{initial_write}
+use Rattle.std.proofs.Common.{false, arith, ◌≤◌, ◌<◌, ◌+◌, ◌++◌, ◌∷◌, [], subst, sym, ◌∙◌}
+use Rattle.std.proofs.Common.{ap, length, true}
 use Rattle.history_model.specs.declared.operation.Operation.{Operation}
 use Rattle.history_model.specs.Naming.{op_shown}
-use Rattle.history_model.specs.Walking.{IsOnWalk, called_at, walk_left}
+use Rattle.history_model.specs.Walking.{IsOnWalk, walk_left}
 use Rattle.history_model.proofs.Walking.{event-at, walk-within, walk-ends, named-is-called}
 use Rattle.history_text.specs.declared.limits.TheConstants.{MAX_EVENTS}
 use Rattle.level_report.specs.Shown.{AreReady, operation_shown}

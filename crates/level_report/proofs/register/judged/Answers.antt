@@ -1,4 +1,3 @@
-use Rattle.std.proofs.Common.{subst, sym}
 use Rattle.level_report.proofs.register.judged.Goals as goal
 
 pub returns-in-Err : goal.returns-in-Err

@@ -1,5 +1,4 @@
 use Rattle.std.proofs.Common.{◌∙◌, ap, Some, subst, sym}
-use Rattle.history_model.specs.Operations.{register_of}
 use Rattle.level_report.specs.Called.{AreCalled}
 use Rattle.level_report.specs.Judged.{IsJudgement}
 use Rattle.level_report.specs.Shown.{AreReady}

@@ -2,7 +2,7 @@ use Rattle.std.proofs.Common.{refl, subst, sym, ap, ◌∙◌, ℕ, List, None, 
 use Rattle.history_model.specs.declared.operation.Operation.{Operation}
 use Rattle.level_text.specs.declared.report.Freshness.{Freshness}
 use Rattle.level_text.specs.declared.report.KeptGuarantees.{KeptGuarantees}
-use Rattle.level_report.specs.Freshness.{IsFreshness, without_counts}
+use Rattle.level_report.specs.Freshness.{without_counts}
 use Rattle.level_report.specs.Guarantees.{AreGuarantees, IsOrderShown}
 use Rattle.level_report.specs.Ordered.{no_guarantee}
 use Rattle.level_report.proofs.Deciding.{line-at, unwritten-everywhere}

@@ -1,9 +1,7 @@
-use Rattle.std.proofs.Common.{◌∙◌, ap, arith, length, subst, sym}
+use Rattle.std.proofs.Common.{arith, subst}
 use Rattle.std.specs.List.{AllZip}
 use Rattle.std.proofs.lemmas.Result.{IfOk-weaker}
 use Rattle.parallel.proofs.Callers.{all-given}
-use Rattle.level_report.specs.Meaning.{IsRegisterLine}
-use Rattle.level_report.specs.Registers.{AreLines}
 use Rattle.level_report.proofs.Sharing.{IsLineOf, lines-of-all}
 use Rattle.level_report.proofs.registers.register_lines.Goals as goal
 

@@ -1,12 +1,9 @@
-use Rattle.level_report.proofs.Telling.{told-of}
+use Rattle.level_report.proofs.Telling.{answer-of}
 use Rattle.level_report.proofs.whole.answered.Goals as goal
 
 pub returns-clause-ok : goal.returns-clause-ok
 returns-clause-ok g c =
     let read = c.in_ok-arena.ensures.ok in
-    let made = c.in_ok-told.field-0 in (
-      read.0,
-      read.1,
-      told-of c.args.settings.asked c.args.settings.required read.0 c.in_ok-arena.arena made.0.items made.1
-          read.2 c.in_ok-told.ensures,
-    )
+    let made = c.in_ok-answer_of.field-0 in
+    let told = answer-of c.args.settings.asked c.args.settings.required read.0 c.in_ok-arena.arena made.0.items
+    made.1 read.2 c.in_ok-answer_of.ensures in (read.0, read.1, told.0, told.1)

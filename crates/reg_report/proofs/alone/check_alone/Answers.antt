@@ -1,3 +1,4 @@
+use Rattle.std.proofs.Common.{false}
 use Rattle.reg_report.proofs.Answering.{answer-of-arena}
 use Rattle.reg_report.proofs.alone.check_alone.Goals as goal
 
