@@ -142,7 +142,7 @@ embed-test: library $(PROGRAMS:%=bin/%) bin/history_generator
 	tests/embed --count $(COUNT)
 	tests/languages
 
-bench-library: library bin/regcheck bin/history_generator
+bench-library: library bin/regcheck bin/reglevel bin/history_generator
 	bench/library
 
 run: bin/regcheck
