@@ -210,6 +210,14 @@ class Answers(unittest.TestCase):
         self.assertEqual(statuses, {0, 1})
 
     @unittest.skipUnless(REGLEVEL, "no reglevel")
+    def test_judge_levels(self) -> None:
+        with environment(REGCHECK_LIBRARY="", REGLEVEL=str(REGLEVEL)):
+            want = judge_levels(FINE, "session", stale=True)
+        with environment(REGCHECK_LIBRARY=BUILT), mock.patch.object(checker, "RunningProgram") as program:
+            self.assertEqual(judge_levels(FINE, "session", stale=True), want)
+            program.assert_not_called()
+
+    @unittest.skipUnless(REGLEVEL, "no reglevel")
     def test_no_levels(self) -> None:
         for number, history in REFUSED.items():
             told, want = Library(BUILT).levels(history), run_checker(history, program=REGLEVEL)
