@@ -138,11 +138,11 @@ bin/regcheck.pc: library/regcheck.pc.in VERSION
 	mkdir -p bin
 	sed 's|@VERSION@|$(VERSION)|' library/regcheck.pc.in > $@
 
-embed-test: library bin/regcheck bin/regsearch bin/history_generator
+embed-test: library $(PROGRAMS:%=bin/%) bin/history_generator
 	tests/embed --count $(COUNT)
 	tests/languages
 
-bench-library: library bin/regcheck bin/history_generator
+bench-library: library bin/regcheck bin/reglevel bin/history_generator
 	bench/library
 
 run: bin/regcheck

@@ -1,5 +1,6 @@
-/* Calls the library so many times on the history in a file, and writes the report of the last
-   call: `calls FILE COUNT`. */
+/* Calls the library so many times on the history in a file, and writes the report of the last call:
+   `calls FILE COUNT`. It asks whether the history is atomic, or with LEVEL defined whether it keeps that
+   level. */
 #include <stdio.h>
 #include <stdlib.h>
 #include "regcheck.h"
@@ -20,7 +21,11 @@ int main(int words, char **word)
         return 4;
     }
     for (long left = atol(word[2]); left > 0; left--)
+#ifdef LEVEL
+        reglevel_report(history, length, LEVEL, 0, report, room, &answer);
+#else
         regcheck_report(history, length, report, room, &answer);
+#endif
     if (answer.status <= REGCHECK_NOT_ATOMIC)
         fwrite(report, 1, answer.length, stdout);
     return answer.status;

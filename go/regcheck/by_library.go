@@ -19,7 +19,10 @@ package regcheck
 */
 import "C"
 
-import "unsafe"
+import (
+	"fmt"
+	"unsafe"
+)
 
 // checked gives what regcheck says of the history.
 func checked(history []byte) (Verdict, []byte, error) {
@@ -40,6 +43,27 @@ func searched(history []byte, bounds []Bound) (Verdict, []byte, error) {
 	}, func(line []byte) C.size_t {
 		return C.regsearch_refusal(input, length, at(line), C.size_t(len(line)))
 	})
+}
+
+var levels = map[Level]C.uint32_t{
+	Atomic: C.REGLEVEL_ATOMIC, Regular: C.REGLEVEL_REGULAR, Session: C.REGLEVEL_SESSION,
+	OwnWrites: C.REGLEVEL_OWN_WRITES, Monotonic: C.REGLEVEL_MONOTONIC, Sequential: C.REGLEVEL_SEQUENTIAL,
+}
+
+// ask asks reglevel, whose report lists each stale read.
+func (answer *LevelAnswer) ask() error {
+	level, known := levels[answer.Level]
+	if !known {
+		return fmt.Errorf("%q is no level", string(answer.Level))
+	}
+	input, length := at(answer.History), C.size_t(len(answer.History))
+	verdict, report, err := asked(len(answer.History), func(out []byte, told *C.regcheck_answer) {
+		C.reglevel_report(input, length, level, C.REGLEVEL_STALE, at(out), C.size_t(len(out)), told)
+	}, func(line []byte) C.size_t {
+		return C.regcheck_refusal(input, length, at(line), C.size_t(len(line)))
+	})
+	answer.Kept, answer.Report = verdict == Yes, report
+	return err
 }
 
 // asked gives what the library says of a history of so many bytes, by its functions for a report and for

@@ -3,6 +3,8 @@
 package regcheck_test
 
 import (
+	"errors"
+	"strings"
 	"testing"
 
 	"example.org/regcheck"
@@ -12,9 +14,12 @@ import (
 func TestWithoutPrograms(t *testing.T) {
 	t.Setenv("REGCHECK", "/nowhere/regcheck")
 	t.Setenv("REGSEARCH", "/nowhere/regsearch")
+	t.Setenv("REGLEVEL", "/nowhere/reglevel")
 	TestVerdicts(t)
 	TestRefusals(t)
 	TestRefusedByReportAlone(t)
+	TestLevels(t)
+	TestNoLevel(t)
 	answer, err := regcheck.Check(cas(regcheck.TookPlace, regcheck.Missed), regcheck.Steps(1))
 	if err != nil || answer.Verdict != regcheck.Unknown {
 		t.Errorf("%v, %v", answer.Verdict, err)
@@ -34,4 +39,24 @@ func TestNumbers(t *testing.T) {
 			t.Errorf("%v, not %v", err, want)
 		}
 	}
+	_, err := regcheck.CheckLevel([]byte("[]\n"), regcheck.Session)
+	var refusal *regcheck.Refusal
+	want := regcheck.Refusal{Number: 3, Line: 1, Words: "line 1: not an object"}
+	if !errors.As(err, &refusal) || *refusal != want {
+		t.Errorf("%v", err)
+	}
+}
+
+// The words are those of regkit, which asks whatever it finds: this one says its arguments.
+func TestWordsOfLevels(t *testing.T) {
+	t.Setenv("REGKIT", script(t, "echo \"$6: $*\"; exit 1"))
+	answer, err := regcheck.CheckLevel(goesBack(t).History(), regcheck.Session)
+	words, none := answer.Words()
+	if err != nil || none != nil || !strings.HasPrefix(words, "levels --color never --require session ") {
+		t.Errorf("%v, %v, %q", err, none, words)
+	}
+}
+
+func TestNoSuchLevel(t *testing.T) {
+	mustSay(t, leveled(goesBack(t), "causal"), `no verdict: "causal" is no level`)
 }

@@ -20,6 +20,26 @@ func searched(history []byte, bounds []Bound) (Verdict, []byte, error) {
 	return judged(path, history, options(bounds)...)
 }
 
+// ask asks reglevel, whose report lists each stale read.
+func (answer *LevelAnswer) ask() error {
+	path, err := companion("REGLEVEL", "reglevel")
+	if err != nil {
+		return err
+	}
+	said, err := run(path, answer.History, "--stale", "--require", string(answer.Level))
+	if err != nil {
+		return err
+	}
+	switch said.status {
+	case statusAtomic, statusNotAtomic:
+		answer.Kept, answer.Report, answer.program = said.status == statusAtomic, said.output, path
+		return nil
+	case statusRefused:
+		return refusalOf(said.complaint)
+	}
+	return said.failure(path)
+}
+
 func judged(path string, history []byte, words ...string) (Verdict, []byte, error) {
 	said, err := run(path, history, words...)
 	if err != nil {

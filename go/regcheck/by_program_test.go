@@ -51,6 +51,29 @@ func TestFolder(t *testing.T) {
 	}
 }
 
+// The words are those of regkit, which asks the same reglevel.
+func TestWordsOfLevels(t *testing.T) {
+	recorder := goesBack(t)
+	mustSay(t, leveled(recorder, regcheck.Session), "TestTold_a_b.jsonl: keeps read your writes; ",
+		`required: session, which doesn't hold of 1 of 1 register: "x"`, "page: ")
+	for end, want := range map[string]string{".html": "</svg>", ".report": `"session":"no"`} {
+		kept, _ := os.ReadFile(filepath.Join(recorder.Folder, "TestTold_a_b"+end))
+		mustSay(t, string(kept), want)
+	}
+	answer, err := regcheck.CheckLevel(recorder.History(), regcheck.Session)
+	words, none := answer.Words()
+	if err != nil || none != nil || answer.Kept || !strings.HasPrefix(words, "keeps read your writes; ") {
+		t.Errorf("%v, %v, %q", err, none, words)
+	}
+}
+
+func TestWithoutLevels(t *testing.T) {
+	recorder := goesBack(t)
+	mustSay(t, leveled(recorder, "causal"), "no verdict: ", "ended with status 3: ")
+	t.Setenv("REGLEVEL", "/nowhere/reglevel")
+	mustSay(t, leveled(recorder, regcheck.Session), "no verdict: /nowhere/reglevel could not be run")
+}
+
 // alone gives the path of a regcheck with nothing beside it.
 func alone(t *testing.T) string {
 	path := os.Getenv("REGCHECK")

@@ -1,6 +1,7 @@
 package regcheck
 
 import (
+	"errors"
 	"fmt"
 	"os"
 	"path/filepath"
@@ -27,34 +28,22 @@ type LevelAnswer struct {
 	History []byte // in the form of the programs
 	Report  []byte // that of reglevel
 
-	program string // the path of reglevel
+	program string // the path of reglevel, unless the library answered
 }
 
-// CheckLevel says whether each register of a history in the form of the programs keeps a level. It runs the
-// program reglevel, also where the library is linked: the one that REGLEVEL names, the one beside regcheck,
-// or the one on PATH. reglevel takes what regcheck takes: reads and writes, each value written once to a
-// register.
+// CheckLevel says whether each register of a history in the form of the programs keeps a level. reglevel
+// decides, which takes what regcheck takes: reads and writes, each value written once to a register. Without
+// the library it is the one that REGLEVEL names, the one beside regcheck, or the one on PATH.
 //
 // The error says why there is no answer: it may be a *Refusal.
 func CheckLevel(history []byte, level Level) (LevelAnswer, error) {
 	answer := LevelAnswer{Level: level, History: history}
-	var err error
-	if answer.program, err = companion("REGLEVEL", "reglevel"); err != nil {
-		return answer, err
+	err := answer.ask()
+	var refusal *Refusal
+	if errors.As(err, &refusal) {
+		err = fmt.Errorf("%w; reglevel takes reads and writes of distinct values", refusal)
 	}
-	said, err := run(answer.program, history, "--stale", "--require", string(level))
-	if err != nil {
-		return answer, err
-	}
-	switch said.status {
-	case statusAtomic, statusNotAtomic:
-		answer.Kept, answer.Report = said.status == statusAtomic, said.output
-		return answer, nil
-	case statusRefused:
-		refusal := refusalOf(said.complaint)
-		return answer, fmt.Errorf("%w; reglevel takes reads and writes of distinct values", refusal)
-	}
-	return answer, said.failure(answer.program)
+	return answer, err
 }
 
 // Words says why a history doesn't keep the level, as `regkit levels` does. If it does, there is nothing to
@@ -118,14 +107,18 @@ func (files files) explainLevel(answer LevelAnswer) string {
 	return words + "\n\n" + kept + "\n" + files.drawWhole(answer.History)
 }
 
-// levels gives the words of regkit for the kept history, by the reglevel that answered.
+// levels gives the words of regkit for the kept history, by the program that answered, if it was one.
 func (files files) levels(answer LevelAnswer) (string, error) {
 	path, err := regkit()
 	if err != nil {
 		return "", err
 	}
 	words := []string{"levels", "--color", "never", "--require", string(answer.Level), files.history}
-	said, err := runIn([]string{"REGLEVEL=" + answer.program}, path, nil, words...)
+	var more []string
+	if answer.program != "" {
+		more = []string{"REGLEVEL=" + answer.program}
+	}
+	said, err := runIn(more, path, nil, words...)
 	if err != nil {
 		return "", err
 	}

@@ -5,10 +5,11 @@
 // takes operations with the times of their calls and returns, as the checker Porcupine does. CheckHistory
 // takes a history in the form of the programs, and Report gives regcheck's report of it.
 //
-// It links libregcheck.a, from lib in the release that it came with, which has both checkers. Without cgo, or
-// with the build tag regcheck_program, it runs the programs instead: the regcheck that REGCHECK names, or the
-// one on PATH; and for histories that regcheck refuses, above all those with compare-and-swap or repeated
-// values, the regsearch that REGSEARCH names, the one beside regcheck, or the one on PATH.
+// It links libregcheck.a, from lib in the release that it came with, which has the three checkers. Without
+// cgo, or with the build tag regcheck_program, it runs the programs instead: the regcheck that REGCHECK
+// names, or the one on PATH; and for histories that regcheck refuses, above all those with compare-and-swap
+// or repeated values, the regsearch that REGSEARCH names, the one beside regcheck, or the one on PATH. The
+// reglevel is the one that REGLEVEL names, or is found in the same way.
 package regcheck
 
 import "errors"

@@ -210,15 +210,19 @@ func mustHave(history []byte, err error) []byte {
 	return history
 }
 
+// script gives the path of a program of these lines.
+func script(t *testing.T, lines string) string {
+	path := filepath.Join(t.TempDir(), "script")
+	if err := os.WriteFile(path, []byte("#!/bin/sh\n"+lines+"\n"), 0o777); err != nil {
+		t.Fatal(err)
+	}
+	return path
+}
+
 // Without a fault or a bound there is nothing to say. The words of the rest are those of regkit: this one
 // says its arguments.
 func TestWords(t *testing.T) {
-	regkit := filepath.Join(t.TempDir(), "regkit")
-	script := "#!/bin/sh\necho \"$4: $*\"\ngrep -q gave_up \"$5\" && exit 6\nexit 1\n"
-	if err := os.WriteFile(regkit, []byte(script), 0o777); err != nil {
-		t.Fatal(err)
-	}
-	t.Setenv("REGKIT", regkit)
+	t.Setenv("REGKIT", script(t, "echo \"$4: $*\"\ngrep -q gave_up \"$5\" && exit 6\nexit 1"))
 	few := regcheck.Steps(1)
 	for name, test := range map[string]struct {
 		operations []regcheck.Operation

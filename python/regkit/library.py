@@ -1,4 +1,4 @@
-"""The checkers as a library in this process: `find_library().check(history)`, or `.search(history)`.
+"""The checkers as a library in this process: `find_library()` has `check`, `search` and `levels`.
 
 docs/embedding.md says more."""
 from regkit.checker.library import Library, NoLibrary, Told, find_library

@@ -13,7 +13,7 @@ from typing import Optional, Sequence, Union
 from regkit.base.statuses import ExitStatus
 from regkit.checker.bounds import bounds
 from regkit.checker.levels import DISTINCT, LEVELS, Levels, kept, levels_in
-from regkit.checker.programs import (Answer, NoChecker, decide, is_for_search, run_levels,
+from regkit.checker.programs import (Answer, NoChecker, decide, is_for_search, judge_levels,
                                      with_search_hint)
 from regkit.checker.report import read_report
 from regkit.evidence.evidence import Evidence, count_evidence
@@ -71,9 +71,9 @@ def assert_level(history: Recorded, level: str, *, least_reads: int = 1, least_o
     level, with enough evidence.
 
     The level is one of atomic, regular, session, own_writes, monotonic and sequential, which docs/levels.md
-    explains. The history, the evidence and the mistakes are as in `assert_atomic`. reglevel decides, which
-    takes the histories that regcheck takes. Raises NotChecked if it gives no answer, and NoChecker if it
-    isn't there."""
+    explains. The history, the evidence and the mistakes are as in `assert_atomic`. reglevel decides, or the
+    library in its place, and takes the histories that regcheck takes. Raises NotChecked if it gives no
+    answer, and NoChecker if it isn't there."""
     __tracebackhide__ = True
     if level not in LEVELS:
         raise ValueError(f"{level!r} is no level: it is one of {', '.join(LEVELS)}")
@@ -204,7 +204,7 @@ def _how_to_see(path: pathlib.Path, options: Sequence[str] = ()) -> str:
 
 def _not_kept(data: bytes, level: str) -> str:
     """Why a history doesn't keep a level, as `regkit levels` says it; empty if it does. Raises NotChecked."""
-    answer = run_levels(data, ["--stale", "--require", level])
+    answer = judge_levels(data, level, stale=True)
     if answer.status not in (ExitStatus.ATOMIC, ExitStatus.NOT_ATOMIC):
         raise NotChecked(_without_levels(data, answer))
     try:

@@ -8,8 +8,10 @@ from typing import Any, Dict, List
 from unittest import mock
 
 from regkit.checker import programs as checker
+from regkit.checker.levels import LEVELS
 from regkit.checker.library import Library, NoLibrary, find_library
-from regkit.checker.programs import LIBRARY_BYTES, NoChecker, find_checker, judge, run_checker
+from regkit.checker.programs import (LEVEL, LIBRARY_BYTES, NoChecker, find_checker, find_program, judge,
+                                     judge_levels, run_checker)
 from regkit.checker.refusals import SEARCH_TEXTS, TEXTS, read_refusal
 
 from .events import crash, gave, read, reply, text, write
@@ -18,7 +20,8 @@ from .search_sources import find_regsearch
 ROOT = pathlib.Path(__file__).resolve().parents[2]
 EXAMPLES = sorted((ROOT / "examples").glob("*.jsonl"))
 SEARCH_EXAMPLES = [*EXAMPLES, *sorted((ROOT / "examples" / "search").glob("*.jsonl"))]
-REGSEARCH = find_regsearch()
+LEVEL_EXAMPLES = sorted((ROOT / "examples" / "levels").glob("*.jsonl"))
+REGSEARCH, REGLEVEL = find_regsearch(), find_program(LEVEL)
 FINE = text(write(1, 5), reply(1), read(2), gave(2, 5))
 BUILT = os.environ.get("REGCHECK_LIBRARY") or str(ROOT / "bin" / "libregcheck.so.1")
 
@@ -43,8 +46,9 @@ SEARCH_REFUSED: Dict[int, bytes] = {
 
 
 def environment(**names: str) -> Any:
-    """Without REGCHECK and REGCHECK_LIBRARY, but for these."""
-    kept = {name: value for name, value in os.environ.items() if name not in ("REGCHECK", "REGCHECK_LIBRARY")}
+    """Without the variables that say what is asked, but for these."""
+    kept = {name: value for name, value in os.environ.items()
+            if name not in ("REGCHECK", "REGLEVEL", "REGCHECK_LIBRARY")}
     return mock.patch.dict(os.environ, {**kept, **names}, clear=True)
 
 
@@ -74,6 +78,18 @@ class Choice(unittest.TestCase):
         for names in ({"REGCHECK_LIBRARY": ""}, {"REGCHECK": "regcheck"}):
             with environment(**names):
                 self.assertIsNone(find_library())
+                self.assertIsNone(find_library(LEVEL))
+
+    def test_a_program_for_the_levels_is_named(self) -> None:
+        """Then the library is asked for the rest."""
+        with environment(REGLEVEL="reglevel"), \
+                mock.patch("regkit.checker.library._places", return_value=["some.so"]), \
+                mock.patch("regkit.checker.library._loaded") as loaded:
+            self.assertIsNone(find_library(LEVEL))
+            self.assertIs(find_library(), loaded.return_value)
+        with environment(REGLEVEL="reglevel", REGCHECK_LIBRARY="other.so"), \
+                mock.patch("regkit.checker.library._loaded") as loaded:
+            self.assertIs(find_library(LEVEL), loaded.return_value)
 
     def test_no_library_is_named(self) -> None:
         for path in ("/no/such/file", ctypes.util.find_library("c")):
@@ -82,13 +98,25 @@ class Choice(unittest.TestCase):
                 self.assertRaises(NoLibrary, find_library)
                 with self.assertRaisesRegex(NoChecker, "Is REGCHECK_LIBRARY right"):
                     judge(FINE)
+                with self.assertRaisesRegex(NoChecker, "Is REGCHECK_LIBRARY right"):
+                    judge_levels(FINE)
 
     def test_an_old_library_is_named(self) -> None:
-        """The first one had a single function."""
-        old = mock.Mock(spec=["regcheck_report"])
-        with mock.patch("ctypes.CDLL", return_value=old):
-            with self.assertRaisesRegex(NoLibrary, r"^old.so is too old .*: it has no regcheck_refusal"):
-                Library("old.so")
+        """The first one had a single function, and the last before this one four."""
+        functions = ["regcheck_report", "regcheck_refusal", "regsearch_report", "regsearch_refusal",
+                     "reglevel_report"]
+        for count in (1, 4):
+            with mock.patch("ctypes.CDLL", return_value=mock.Mock(spec=functions[:count])):
+                words = f"^old.so is too old .*: it has no {functions[count]}"
+                with self.assertRaisesRegex(NoLibrary, words):
+                    Library("old.so")
+
+    def test_an_old_library_is_installed(self) -> None:
+        """Then the programs are asked."""
+        with environment(), mock.patch("regkit.checker.library._places", return_value=["old.so"]), \
+                mock.patch("regkit.checker.library._loaded", side_effect=NoLibrary):
+            self.assertIsNone(find_library())
+            self.assertIsNone(find_library(LEVEL))
 
     def asked(self, history: bytes, *options: str) -> List[bytes]:
         """What a library was asked, where the program says nothing."""
@@ -104,6 +132,18 @@ class Choice(unittest.TestCase):
         self.assertEqual(self.asked(small), [small])
         self.assertEqual(self.asked(small + b"\n"), [])
         self.assertEqual(self.asked(FINE, "--workers", "1"), [])
+
+    def test_levels_of_small_histories(self) -> None:
+        library = mock.Mock()
+        library.levels.return_value = mock.Mock(status=1, report=b"levels", refusal="")
+        with mock.patch("regkit.checker.library.find_library", return_value=library) as find, \
+                mock.patch.object(checker, "find_program", return_value=None):
+            answer = judge_levels(FINE, "session", stale=True)
+            with self.assertRaisesRegex(NoChecker, "reglevel was not found"):
+                judge_levels(FINE.ljust(LIBRARY_BYTES + 1, b"\n"))
+        self.assertEqual(answer, (1, b"levels", "", LEVEL))
+        find.assert_called_once_with(LEVEL)
+        library.levels.assert_called_once_with(FINE, "session", stale=True, orders=False)
 
 
 @unittest.skipUnless(os.path.isfile(BUILT), "no library: `make library` builds it")
@@ -155,6 +195,35 @@ class Answers(unittest.TestCase):
         self.assertEqual(self.searched(history, steps=1_000_000_000_000, configurations=1_048_576), 0)
         for bounds in ({"steps": -1}, {"steps": 1_000_000_000_001}, {"configurations": 1_048_577}):
             self.assertRaises(ValueError, Library(BUILT).search, history, **bounds)
+
+    @unittest.skipUnless(REGLEVEL, "no reglevel")
+    def test_levels(self) -> None:
+        library, statuses = Library(BUILT), set()
+        for number, path in enumerate([*EXAMPLES, *LEVEL_EXAMPLES]):
+            history, level = path.read_bytes(), LEVELS[number % len(LEVELS)]
+            for stale, orders in ((False, False), (True, False), (False, True), (True, True)):
+                told = library.levels(history, level, stale=stale, orders=orders)
+                options = ["--stale"] * stale + ["--orders"] * orders
+                want = run_checker(history, ["--require", level, *options], program=REGLEVEL)
+                self.assertEqual(told[:3], want[:3], path)
+                statuses.add(told.status)
+        self.assertEqual(statuses, {0, 1})
+
+    @unittest.skipUnless(REGLEVEL, "no reglevel")
+    def test_judge_levels(self) -> None:
+        with environment(REGCHECK_LIBRARY="", REGLEVEL=str(REGLEVEL)):
+            want = judge_levels(FINE, "session", stale=True)
+        with environment(REGCHECK_LIBRARY=BUILT), mock.patch.object(checker, "RunningProgram") as program:
+            self.assertEqual(judge_levels(FINE, "session", stale=True), want)
+            program.assert_not_called()
+
+    @unittest.skipUnless(REGLEVEL, "no reglevel")
+    def test_no_levels(self) -> None:
+        for number, history in REFUSED.items():
+            told, want = Library(BUILT).levels(history), run_checker(history, program=REGLEVEL)
+            self.assertEqual((told.number, *told[:3]), (number, *want[:3]))
+        with self.assertRaisesRegex(ValueError, "'causal' is no level: it is one of atomic, regular, "):
+            Library(BUILT).levels(FINE, "causal")
 
     def test_a_report_longer_than_its_history(self) -> None:
         history = text(*(read(process, str(process)) for process in range(1000)))

@@ -6,7 +6,7 @@ import unittest
 from typing import Any, Dict, List, Optional, Set, Tuple
 
 from regkit import verify
-from regkit.checker.programs import LEVEL, find_program, run_levels
+from regkit.checker.programs import LEVEL, find_program, judge_levels
 from regkit.verify.clusters import check_kept
 from regkit.verify.guarantees import GUARANTEES, Guarantee, Places, check_order, within
 from regkit.verify.levels import first_unclean
@@ -476,16 +476,16 @@ class Honest(unittest.TestCase):
         """With all that it tells, and with no more than it must."""
         for seed in range(60):
             history = text(*random_history(seed, 24))
-            for options in ((), ("--stale", "--orders")):
-                with self.subTest(seed, options=options):
-                    answer = run_levels(history, options)
+            for all_of_it in (False, True):
+                with self.subTest(seed, all_of_it=all_of_it):
+                    answer = judge_levels(history, stale=all_of_it, orders=all_of_it)
                     found = verify.verify(history, answer.report)
                     self.assertEqual(found.atomic, answer.status == 0)
 
     def test_a_level_that_is_turned_is_refused(self) -> None:
         for seed in range(40):
             history = text(*random_history(seed, 24))
-            *rows, summary = map(json.loads, run_levels(history).report.splitlines())
+            *rows, summary = map(json.loads, judge_levels(history).report.splitlines())
             for level in ("atomic", "regular", "session", "sequential"):
                 turned = [{**rows[0], level: "no" if rows[0][level] == "yes" else "yes"}, *rows[1:], summary]
                 with self.subTest(seed, level=level), self.assertRaises(verify.Wrong):

@@ -8,7 +8,7 @@ use std::{
 
 const ARCHIVE: &str = "libregcheck.a";
 const SHARED: &str = "libregcheck.so";
-const NEWEST: &[u8] = b"regsearch_refusal"; // the function that older libraries lack
+const NEWEST: &[u8] = b"reglevel_report"; // the function that older libraries lack
 /// Where linkers look by themselves.
 const SYSTEM: [&str; 6] = [
     "/usr/local/lib",

@@ -12,10 +12,13 @@ from typing import Any, Callable, Iterator, NamedTuple, Optional
 from regkit import __version__
 from regkit.base.limits import MAX_CONFIGURATIONS, MAX_STEPS
 from regkit.base.statuses import ExitStatus
+from regkit.checker.levels import LEVELS
+from regkit.checker.programs import CHECK, VARIABLES
 
 TOO_SMALL = 5  # the only status of regcheck.h that isn't one of the programs: the report needs more room
 FILE = "libregcheck.so.1"  # the number is that of the interface
 LINE_LENGTH = 128  # REGCHECK_LINE_LENGTH
+STALE, ORDERS = 1, 2  # REGLEVEL_STALE and REGLEVEL_ORDERS; the levels have the numbers of their places
 OUT_OF_MEMORY = "no memory or no thread", 17  # words and number, which a library without memory can't give
 
 
@@ -43,6 +46,7 @@ class _Answer(ctypes.Structure):
 
 _INPUT = (ctypes.c_char_p, ctypes.c_size_t)
 _BOUNDS = (ctypes.c_uint64, ctypes.c_size_t)
+_LEVEL = (ctypes.c_uint32, ctypes.c_uint32)
 _OUTPUT = (ctypes.c_char_p, ctypes.c_size_t)
 _ANSWER = (*_OUTPUT, ctypes.POINTER(_Answer))
 
@@ -60,6 +64,7 @@ class Library:
         self._check_refusal = self._function("regcheck_refusal", (*_INPUT, *_OUTPUT), ctypes.c_size_t)
         self._search = self._function("regsearch_report", (*_INPUT, *_BOUNDS, *_ANSWER))
         self._search_refusal = self._function("regsearch_refusal", (*_INPUT, *_OUTPUT), ctypes.c_size_t)
+        self._levels = self._function("reglevel_report", (*_INPUT, *_LEVEL, *_ANSWER))
 
     def _function(self, name: str, types: tuple[Any, ...], result: Any = None) -> Callable[..., Any]:
         try:
@@ -89,12 +94,23 @@ class Library:
         answered = self._answered(self._search, history, steps, configurations)
         return self._told(self._search_refusal, history, *answered)
 
+    def levels(self, history: bytes, level: str = "atomic", *, stale: bool = False,
+               orders: bool = False) -> Told:
+        """What `reglevel` would say of the history with these options, byte for byte.
+
+        Raises ValueError if there is no such level."""
+        if level not in LEVELS:
+            raise ValueError(f"{level!r} is no level: it is one of {', '.join(LEVELS)}")
+        more = STALE * stale + ORDERS * orders
+        answered = self._answered(self._levels, history, LEVELS.index(level), more)
+        return self._told(self._check_refusal, history, *answered)
+
     @staticmethod
-    def _answered(function: Callable[..., None], history: bytes, *bounds: int) -> tuple[_Answer, bytes]:
+    def _answered(function: Callable[..., None], history: bytes, *numbers: int) -> tuple[_Answer, bytes]:
         room = len(history) + 1024  # enough unless registers have one operation or two
         while True:
             out, answer = ctypes.create_string_buffer(room), _Answer()
-            function(history, len(history), *bounds, out, room, ctypes.byref(answer))
+            function(history, len(history), *numbers, out, room, ctypes.byref(answer))
             if answer.status != TOO_SMALL:
                 return answer, out.raw[:answer.length]
             room = answer.length
@@ -131,16 +147,16 @@ def _loaded(path: str) -> Library:
     return Library(path)
 
 
-def find_library() -> Optional[Library]:
-    """The library in REGCHECK_LIBRARY, or the one installed with this command, or the system's; None if there
-    is none.
+def find_library(program: str = CHECK) -> Optional[Library]:
+    """The library in REGCHECK_LIBRARY, or the one installed with this command, or the system's, to stand in
+    the place of a program; None if there is none.
 
-    If only REGCHECK is set, the program that it names is what was asked for. Raises NoLibrary if
-    REGCHECK_LIBRARY names another file."""
+    If that isn't set, but REGCHECK or the program's own variable is, a program is what was asked for. Raises
+    NoLibrary if REGCHECK_LIBRARY names another file."""
     named = os.environ.get("REGCHECK_LIBRARY")
     if named is not None:
         return _loaded(named) if named else None
-    if os.environ.get("REGCHECK"):
+    if any(os.environ.get(VARIABLES[name]) for name in (CHECK, program)):
         return None
     for place in _places():
         try:

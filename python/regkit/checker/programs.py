@@ -1,4 +1,4 @@
-"""Asks the checker: the program `regcheck`, or for a small history the library, where it is installed.
+"""Asks the checkers: a program, or for a small history the library, where it is installed.
 
 `regcheck` decides whatever it accepts. If it refuses a history for a repeated value, or for a cas or another
 operation that it doesn't take, `regsearch` decides it, if it is there. `reglevel` says which weaker levels a
@@ -11,11 +11,14 @@ import subprocess
 import sys
 from itertools import islice
 from types import TracebackType
-from typing import Any, BinaryIO, NamedTuple, Optional, Sequence, Union
+from typing import TYPE_CHECKING, Any, BinaryIO, NamedTuple, Optional, Sequence, Union
 
 from regkit.base.statuses import ExitStatus
 from regkit.checker.refusals import BAD_OP, NO_VALUE, REPEATED, read_refusal
 from regkit.history.lines import NotJson, json_of
+
+if TYPE_CHECKING:
+    from regkit.checker.library import Library
 
 LIBRARY_BYTES = 1_048_576  # the program has several workers: it is as quick with a longer history
 NOT_FOUND = "regcheck was not found: put it on PATH, or set REGCHECK to its path"
@@ -159,28 +162,25 @@ def run_search(history: bytes, options: Sequence[str], program: str) -> Answer:
         return run.answer()
 
 
-def run_levels(history: bytes, options: Sequence[str] = ()) -> Answer:
-    """Runs `reglevel` on a history. Raises NoChecker if it isn't there or can't be started."""
-    path = find_program(LEVEL)
-    if path is None:
-        raise NoChecker(NO_LEVELS)
-    with RunningProgram(history, options, path, LEVEL) as run:
-        return run.answer()
+def library_for(history: bytes, program: str) -> Optional["Library"]:
+    """The library in the place of a program, if it is there and the history is small: their answers are the
+    same. Raises NoChecker if REGCHECK_LIBRARY names another file."""
+    if len(history) > LIBRARY_BYTES:
+        return None
+    from regkit.checker.library import NoLibrary, find_library  # a long history doesn't wait for this
+
+    try:
+        return find_library(program)
+    except NoLibrary as error:
+        raise NoChecker(str(error)) from error
 
 
 def begin(history: bytes, options: Sequence[str] = ()) -> Union[RunningProgram, ReadyAnswer]:
     """Begins to judge a history: by the library if the history is small and there are no options, else by the
-    program. Their answers are the same."""
-    if options or len(history) > LIBRARY_BYTES:
-        return RunningProgram(history, options)
-    from regkit.checker.library import NoLibrary, find_library  # a long history doesn't wait for this
-
-    try:
-        library = find_library()
-    except NoLibrary as error:
-        raise NoChecker(str(error)) from error
+    program."""
+    library = None if options else library_for(history, CHECK)
     if library is None:
-        return RunningProgram(history)
+        return RunningProgram(history, options)
     told = library.check(history)
     return ReadyAnswer(Answer(told.status, told.report, told.refusal))
 
@@ -188,6 +188,23 @@ def begin(history: bytes, options: Sequence[str] = ()) -> Union[RunningProgram, 
 def judge(history: bytes, options: Sequence[str] = ()) -> Answer:
     """The answer to a history, when it is there."""
     with begin(history, options) as run:
+        return run.answer()
+
+
+def judge_levels(history: bytes, level: Optional[str] = None, *, stale: bool = False,
+                 orders: bool = False) -> Answer:
+    """What `reglevel` says of a history: by the library if the history is small, else by the program. A level
+    is required, or `atomic` if none is named. Raises NoChecker if neither is there, or can't be started."""
+    library = library_for(history, LEVEL)
+    if library is not None:
+        told = library.levels(history, level or "atomic", stale=stale, orders=orders)
+        return Answer(told.status, told.report, told.refusal, LEVEL)
+    path = find_program(LEVEL)
+    if path is None:
+        raise NoChecker(NO_LEVELS)
+    words = [*(["--stale"] if stale else []), *(["--orders"] if orders else []),
+             *(["--require", level] if level else [])]
+    with RunningProgram(history, words, path, LEVEL) as run:
         return run.answer()
 
 

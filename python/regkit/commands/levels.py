@@ -8,7 +8,7 @@ from typing import NamedTuple, Optional
 from regkit.base.garbage import many_objects
 from regkit.base.statuses import ExitStatus
 from regkit.checker.levels import DISTINCT, LEVELS, Levels, kept, levels_in
-from regkit.checker.programs import Answer, NoChecker, run_levels
+from regkit.checker.programs import Answer, NoChecker, judge_levels
 from regkit.commands.stopping import Stop, complain
 from regkit.explain.advice import advice
 from regkit.history.inputs import STANDARD_INPUT, TooLong, read_input, shown_name
@@ -32,7 +32,7 @@ examples:
   regkit levels --page levels.html history.jsonl      draws it too: when stale reads came, and each fault
   regkit levels store/latest/history.edn              a file of any form that `regkit convert` takes
 
-It runs reglevel, which takes the histories that regcheck takes. docs/levels.md explains the levels:
+It asks reglevel, which takes the histories that regcheck takes. docs/levels.md explains the levels:
   atomic      linearizable: each read gives the latest write
   regular     no read is stale: none misses a write that ended before it began
   session     writes in real time; each session sees its own operations in order
@@ -71,12 +71,11 @@ def add_arguments(parser: argparse.ArgumentParser) -> None:
 
 def answered(data: bytes, level: Optional[str]) -> Found:
     """The answer to the history in a file of any form. Raises NotTaken."""
-    options = ["--stale", *(["--require", level] if level else [])]
-    answer = run_levels(data, options)
+    answer = judge_levels(data, level, stale=True)
     taken = taken_of(data, answer)
     if taken is None:
         return Found(data, answer, [])
-    return Found(taken.history, run_levels(taken.history, options), list(taken.told))
+    return Found(taken.history, judge_levels(taken.history, level, stale=True), list(taken.told))
 
 
 def refused(found: Found, name: str) -> Stop:

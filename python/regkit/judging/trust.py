@@ -3,7 +3,7 @@ from typing import NamedTuple, Optional, Sequence
 
 from regkit.base.statuses import ExitStatus
 from regkit.checker.levels import kept, read_levels, strongest
-from regkit.checker.programs import Answer, NoChecker, run_levels
+from regkit.checker.programs import Answer, NoChecker, judge_levels
 from regkit.checker.report import Report, Row, read_verdict
 from regkit.history.lines import NotJson
 from regkit.history.operations import read_history
@@ -55,7 +55,7 @@ def levels_kept(data: bytes) -> Kept:
     """What a history kept that isn't atomic. Nothing is known if reglevel isn't there, or gives no report.
     Raises Untrue if it calls the history atomic."""
     try:
-        summary = read_levels(run_levels(data).report).summary
+        summary = read_levels(judge_levels(data).report).summary
     except (NoChecker, ValueError):
         return Kept()
     found = kept(summary)

@@ -17,10 +17,27 @@ pub struct Answer {
 pub const ATOMIC: u32 = 0;
 pub const NOT_ATOMIC: u32 = 1;
 pub const REFUSED: u32 = 2;
+/// Of `reglevel_report` alone: a number stands for nothing.
+pub const BAD_NUMBER: u32 = 3;
 pub const NO_MEMORY: u32 = 4;
 pub const TOO_SMALL: u32 = 5;
 /// Of `regsearch_report` alone.
 pub const UNKNOWN: u32 = 6;
+
+/// What `reglevel_report` may require.
+pub mod levels {
+    pub const ATOMIC: u32 = 0;
+    pub const REGULAR: u32 = 1;
+    pub const SESSION: u32 = 2;
+    pub const OWN_WRITES: u32 = 3;
+    pub const MONOTONIC: u32 = 4;
+    pub const SEQUENTIAL: u32 = 5;
+}
+
+/// What a report of levels has to say in addition is a sum of these: each stale read,
+pub const STALE: u32 = 1;
+/// and an order for the strongest level that holds.
+pub const ORDERS: u32 = 2;
 
 /// The line of a refusal has no more bytes.
 pub const LINE_LENGTH: usize = 128;
@@ -54,8 +71,23 @@ extern "C" {
         answer: *mut Answer,
     );
 
-    /// Puts the line that regcheck writes of a history that it refuses into `out`, and gives its length: 0 if
-    /// the history isn't refused, or if memory ran out.
+    /// The same for the program reglevel: of a history of reads and writes, whether it keeps one of the
+    /// [`levels`]. `ATOMIC` says that each register does, and `NOT_ATOMIC` that one doesn't.
+    ///
+    /// # Safety
+    /// As of [`regcheck_report`].
+    pub fn reglevel_report(
+        input: *const u8,
+        input_length: usize,
+        level: u32,
+        more: u32,
+        out: *mut u8,
+        out_length: usize,
+        answer: *mut Answer,
+    );
+
+    /// Puts the line that regcheck and reglevel write of a history that they refuse into `out`, and gives its
+    /// length: 0 if the history isn't refused, or if memory ran out.
     ///
     /// # Safety
     /// As of [`regcheck_report`].

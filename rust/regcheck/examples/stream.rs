@@ -1,19 +1,33 @@
 //! Answers each history on standard input. tests/embed compares what it writes; its form is that of
 //! tests/library/stream.c.
 //!
-//! With two arguments, of steps and configurations, it asks regsearch too, within these bounds.
-use regcheck::{check, report, Bounds, Error, Verdict};
+//! With two arguments, of steps and configurations, it asks regsearch too, within these bounds. With one it
+//! asks for that level.
+use regcheck::{check, check_level, report, Bounds, Error, Level, Verdict};
 use std::{
     env,
     io::{self, ErrorKind, Read, Write},
 };
 
+/// What is asked of each history.
+#[derive(Clone, Copy)]
+enum Question {
+    Check,
+    Search(Bounds),
+    Keeps(Level),
+}
+
 /// The status and the report.
-fn ask(history: &[u8], bounds: Option<Bounds>) -> Result<(u32, Vec<u8>), Error> {
-    match bounds {
-        None => report(history).map(|checked| (u32::from(!checked.atomic), checked.report)),
-        Some(bounds) => {
+fn ask(history: &[u8], question: Question) -> Result<(u32, Vec<u8>), Error> {
+    match question {
+        Question::Check => {
+            report(history).map(|checked| (u32::from(!checked.atomic), checked.report))
+        }
+        Question::Search(bounds) => {
             check(history, bounds).map(|answer| (status(answer.verdict), answer.report))
+        }
+        Question::Keeps(level) => {
+            check_level(history, level).map(|answer| (u32::from(!answer.kept), answer.report))
         }
     }
 }
@@ -27,8 +41,8 @@ fn status(verdict: Verdict) -> u32 {
 }
 
 /// Status, number, line and other line, and the report or the words of the refusal.
-fn answer(history: &[u8], bounds: Option<Bounds>) -> ([u32; 4], Vec<u8>) {
-    match ask(history, bounds) {
+fn answer(history: &[u8], question: Question) -> ([u32; 4], Vec<u8>) {
+    match ask(history, question) {
         Ok((status, report)) => ([status, 0, 0, 0], report),
         Err(error) => {
             let numbers = match &error {
@@ -45,14 +59,33 @@ fn answer(history: &[u8], bounds: Option<Bounds>) -> ([u32; 4], Vec<u8>) {
     }
 }
 
+fn level(word: &str) -> Level {
+    match word {
+        "atomic" => Level::Atomic,
+        "regular" => Level::Regular,
+        "session" => Level::Session,
+        "own_writes" => Level::OwnWrites,
+        "monotonic" => Level::Monotonic,
+        "sequential" => Level::Sequential,
+        _ => panic!("{word} is no level"),
+    }
+}
+
+fn question() -> Question {
+    let words: Vec<String> = env::args().skip(1).collect();
+    let number = |word: &String| Some(word.parse().expect("a number"));
+    match &words[..] {
+        [] => Question::Check,
+        [word] => Question::Keeps(level(word)),
+        [steps, configurations, ..] => Question::Search(Bounds {
+            steps: number(steps),
+            configurations: number(configurations),
+        }),
+    }
+}
+
 fn main() -> io::Result<()> {
-    let mut words = env::args()
-        .skip(1)
-        .map(|word| word.parse().expect("a number"));
-    let bounds = words.next().map(|steps| Bounds {
-        steps: Some(steps),
-        configurations: words.next(),
-    });
+    let question = question();
     let (mut input, mut output) = (io::stdin().lock(), io::stdout().lock());
     loop {
         let mut length = [0; 8];
@@ -62,7 +95,7 @@ fn main() -> io::Result<()> {
         }
         let mut history = vec![0; u64::from_le_bytes(length) as usize];
         input.read_exact(&mut history)?;
-        let (numbers, bytes) = answer(&history, bounds);
+        let (numbers, bytes) = answer(&history, question);
         for number in numbers {
             output.write_all(&number.to_le_bytes())?;
         }

@@ -150,12 +150,12 @@ impl Files {
         }
     }
 
-    /// The words of regkit for the kept history, by the reglevel that answered.
+    /// The words of regkit for the kept history, by the program that answered, if it was one.
     fn levels(&self, answer: &LevelAnswer) -> Result<String, String> {
         let level = answer.level.key();
         let words = ["levels", "--color", "never", "--require", level].map(AsRef::as_ref);
         let words = words.into_iter().chain([self.history.as_os_str()]);
-        let said = run_with_levels(&regkit()?, words, &answer.program)?;
+        let said = run_with_levels(&regkit()?, words, answer.program.as_deref())?;
         match said.status.code() {
             programs::NOT_ATOMIC => Ok(String::from_utf8_lossy(&said.stdout).trim_end().to_owned()),
             _ => Err(complaint(&said)),

@@ -1,9 +1,5 @@
 //! Asks reglevel whether a history keeps a level.
-use crate::{
-    kept,
-    programs::{companion, complaint, failure, read, run, ATOMIC, NOT_ATOMIC, REFUSED},
-    Error,
-};
+use crate::{ask_level, kept, Error};
 use std::path::PathBuf;
 
 /// A guarantee that a store may give of each of its keys. docs/levels.md explains them. A session is a client
@@ -45,7 +41,7 @@ pub struct LevelAnswer {
     pub kept: bool,
     /// The report of reglevel.
     pub report: Vec<u8>,
-    pub(crate) program: PathBuf, // that answered
+    pub(crate) program: Option<PathBuf>, // that answered, unless the library did
 }
 
 impl LevelAnswer {
@@ -62,28 +58,18 @@ impl LevelAnswer {
     }
 }
 
-/// Says whether each register of a history keeps a level. It runs the program reglevel, also where the
-/// library is linked: the one that `REGLEVEL` names, the one beside regcheck, or the one on `PATH`. reglevel
-/// takes what regcheck takes: reads and writes, each value written once to a register.
+/// Says whether each register of a history keeps a level. reglevel decides, which takes what regcheck takes:
+/// reads and writes, each value written once to a register. Without the library it is the one that `REGLEVEL`
+/// names, the one beside regcheck, or the one on `PATH`.
 ///
 /// # Errors
 /// Why there is no answer.
 pub fn check_level(history: &[u8], level: Level) -> Result<LevelAnswer, Error> {
-    let program = companion("REGLEVEL", "reglevel").map_err(Error::Program)?;
-    let words = ["--stale", "--require", level.key()];
-    let said = run(&program, words, history).map_err(Error::Program)?;
-    match said.status.code() {
-        ATOMIC | NOT_ATOMIC => Ok(LevelAnswer {
-            level,
-            kept: said.status.code() == ATOMIC,
-            report: said.stdout,
-            program,
-        }),
-        REFUSED => {
-            let mut refusal = read(complaint(&said));
+    ask_level(history, level).map_err(|error| match error {
+        Error::Refused(mut refusal) => {
             refusal.words += "; reglevel takes reads and writes of distinct values";
-            Err(Error::Refused(refusal))
+            Error::Refused(refusal)
         }
-        _ => Err(Error::Program(failure(&program, &said))),
-    }
+        other => other,
+    })
 }

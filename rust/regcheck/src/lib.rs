@@ -1,5 +1,5 @@
 //! Says whether recorded runs of registers are linearizable, by the proved checkers `regcheck` and
-//! `regsearch`.
+//! `regsearch`; or whether they keep a weaker [`Level`], by `reglevel`.
 //!
 //! ```
 //! use regcheck::{check, Bounds, Verdict};
@@ -13,11 +13,11 @@
 //!
 //! A [`Recorder`] writes such a history while threads use a store, and fails the test in words.
 //!
-//! It links `libregcheck.a`, which has both checkers, and depends on nothing else. Without the feature
+//! It links `libregcheck.a`, which has the three checkers, and depends on nothing else. Without the feature
 //! `library` it runs the programs: the `regcheck` that the variable `REGCHECK` names, or the one on `PATH`;
 //! and for histories that regcheck refuses, above all those with compare-and-swap or repeated values, the
-//! `regsearch` that `REGSEARCH` names, the one beside `regcheck`, or the one on `PATH`. Whether a history
-//! keeps a weaker [`Level`] says the program `reglevel` in either case.
+//! `regsearch` that `REGSEARCH` names, the one beside `regcheck`, or the one on `PATH`. The `reglevel` is the
+//! one that `REGLEVEL` names, or is found in the same way.
 mod answer;
 #[cfg(not(feature = "library"))]
 mod by_program;
@@ -36,9 +36,9 @@ pub use level::{check_level, Level, LevelAnswer};
 pub use recorder::{Cas, Client, Delete, Read, Recorder, Swap, Write};
 
 #[cfg(not(feature = "library"))]
-use by_program::{ask, search};
+use by_program::{ask, ask_level, search};
 #[cfg(feature = "library")]
-use library::{ask, search};
+use library::{ask, ask_level, search};
 
 /// The report of regcheck on a history.
 #[derive(Clone, Debug, PartialEq, Eq)]

@@ -1,8 +1,9 @@
 //! Calls the library in this process.
-use crate::{Answer, Bounds, Error, Refusal, Verdict};
+use crate::{Answer, Bounds, Error, Level, LevelAnswer, Refusal, Verdict};
 use regcheck_sys::{
-    regcheck_refusal, regcheck_report, regsearch_refusal, regsearch_report, Answer as Told, ATOMIC,
-    LINE_LENGTH, NOT_ATOMIC, REFUSED, TOO_SMALL, UNKNOWN,
+    levels, regcheck_refusal, regcheck_report, reglevel_report, regsearch_refusal,
+    regsearch_report, Answer as Told, ATOMIC, LINE_LENGTH, NOT_ATOMIC, REFUSED, STALE, TOO_SMALL,
+    UNKNOWN,
 };
 
 /// What regcheck says.
@@ -57,6 +58,50 @@ pub fn search(history: &[u8], _refusal: Refusal, bounds: Bounds) -> Result<Answe
         )
     };
     answer(history.len(), report, refusal)
+}
+
+/// What reglevel says, whose report lists each stale read.
+pub fn ask_level(history: &[u8], level: Level) -> Result<LevelAnswer, Error> {
+    // SAFETY: as above.
+    let report = |out: &mut [u8], told: &mut Told| unsafe {
+        reglevel_report(
+            history.as_ptr(),
+            history.len(),
+            number(level),
+            STALE,
+            out.as_mut_ptr(),
+            out.len(),
+            told,
+        );
+    };
+    // SAFETY: as above.
+    let refusal = |line: &mut [u8]| unsafe {
+        regcheck_refusal(
+            history.as_ptr(),
+            history.len(),
+            line.as_mut_ptr(),
+            line.len(),
+        )
+    };
+    let Answer { verdict, report } = answer(history.len(), report, refusal)?;
+    Ok(LevelAnswer {
+        level,
+        kept: verdict == Verdict::Yes,
+        report,
+        program: None,
+    })
+}
+
+/// The number of the level in `regcheck.h`.
+fn number(level: Level) -> u32 {
+    match level {
+        Level::Atomic => levels::ATOMIC,
+        Level::Regular => levels::REGULAR,
+        Level::Session => levels::SESSION,
+        Level::OwnWrites => levels::OWN_WRITES,
+        Level::Monotonic => levels::MONOTONIC,
+        Level::Sequential => levels::SEQUENTIAL,
+    }
 }
 
 /// What is said of a history of so many bytes, by the functions for a report and for the words of a refusal.

@@ -1,5 +1,4 @@
 //! Runs the programs regcheck, regsearch, reglevel and regkit.
-use crate::Refusal;
 use std::{
     env,
     ffi::OsStr,
@@ -8,10 +7,8 @@ use std::{
     process::{Command, Output, Stdio},
 };
 
-// Exit statuses of regcheck, regsearch and reglevel, and of `regkit explain` and `regkit levels`.
-pub const ATOMIC: Option<i32> = Some(0);
+// Exit statuses of the programs, and of `regkit explain` and `regkit levels`.
 pub const NOT_ATOMIC: Option<i32> = Some(1);
-pub const REFUSED: Option<i32> = Some(2);
 pub const GAVE_UP: Option<i32> = Some(6);
 
 /// The path in the variable.
@@ -59,14 +56,15 @@ pub fn run<W: AsRef<OsStr>>(
     end(program, Command::new(program).args(words), input)
 }
 
-/// What a program says that is to run this reglevel.
+/// What a program says that is to run this reglevel, if one is named.
 pub fn run_with_levels<W: AsRef<OsStr>>(
     program: &Path,
     words: impl IntoIterator<Item = W>,
-    reglevel: &Path,
+    reglevel: Option<&Path>,
 ) -> Result<Output, String> {
     let mut command = Command::new(program);
-    end(program, command.args(words).env("REGLEVEL", reglevel), b"")
+    let named = reglevel.map(|path| ("REGLEVEL", path));
+    end(program, command.args(words).envs(named), b"")
 }
 
 /// Runs a program to its end.
@@ -88,48 +86,4 @@ fn end(program: &Path, command: &mut Command, input: &[u8]) -> Result<Output, St
 /// What a program complains of.
 pub fn complaint(said: &Output) -> String {
     String::from_utf8_lossy(&said.stderr).trim_end().to_owned()
-}
-
-/// What is wrong if a program ends as it shouldn't.
-pub fn failure(program: &Path, said: &Output) -> String {
-    format!(
-        "{} ended with {}: {}",
-        program.display(),
-        said.status,
-        complaint(said)
-    )
-}
-
-/// Reads what a program said of a history that it refused.
-pub fn read(words: String) -> Refusal {
-    let of_line = words.strip_prefix("line ");
-    let line = of_line.and_then(|rest| rest.split(':').next()?.parse().ok());
-    let other = words
-        .rsplit_once(" at line ")
-        .and_then(|(_, other)| other.parse().ok());
-    Refusal {
-        number: None,
-        line,
-        other: line.and(other),
-        words,
-    }
-}
-
-#[cfg(test)]
-mod tests {
-    use super::read;
-
-    #[test]
-    fn the_lines_of_a_refusal_are_read() {
-        let rows = [
-            ("line 3: why", Some(3), None),
-            ("line 12: why at line 7", Some(12), Some(7)),
-            ("why", None, None),
-        ];
-        for (words, line, other) in rows {
-            let refusal = read(words.to_owned());
-            assert_eq!((refusal.line, refusal.other), (line, other), "{words}");
-            assert_eq!(refusal.words, words);
-        }
-    }
 }

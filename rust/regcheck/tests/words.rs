@@ -1,5 +1,5 @@
 //! What is said of an answer. This test is by itself in its process, since it changes variables.
-use regcheck::{check, check_level, Bounds, Level};
+use regcheck::{check, Bounds};
 use std::{env, fs, os::unix::fs::PermissionsExt, process};
 
 const UNWRITTEN: &str = r#"{"process":1,"event":"call","op":"read","register":"x"}
@@ -51,11 +51,4 @@ fn words_are_those_of_regkit() {
         .words(UNWRITTEN.as_bytes(), few)
         .expect_err("no regkit");
     assert!(error.to_string().contains("could not be run"), "{error}");
-    env::set_var("REGLEVEL", "/nowhere/reglevel");
-    let error = check_level(UNWRITTEN.as_bytes(), Level::Session).expect_err("no reglevel");
-    let words = error.to_string();
-    assert!(
-        words.contains("/nowhere/reglevel could not be run"),
-        "{words}"
-    );
 }

@@ -1,7 +1,8 @@
 // Command stream answers each history on standard input. tests/embed compares what it writes; its form is
 // that of tests/library/stream.c.
 //
-// With two arguments, of steps and configurations, it asks regsearch too, within these bounds.
+// With two arguments, of steps and configurations, it asks regsearch too, within these bounds. With one it
+// asks for that level.
 package main
 
 import (
@@ -23,20 +24,28 @@ type numbers struct {
 
 var statuses = map[regcheck.Verdict]uint32{regcheck.Yes: 0, regcheck.No: 1, regcheck.Unknown: 6}
 
-func ask(history []byte, bounds []regcheck.Bound) (uint32, []byte, error) {
-	if len(bounds) > 0 {
-		answer, err := regcheck.CheckHistory(history, bounds...)
-		return statuses[answer.Verdict], answer.Report, err
+func statusOf(holds bool) uint32 {
+	if holds {
+		return 0
 	}
-	atomic, report, err := regcheck.Report(history)
-	if atomic {
-		return 0, report, err
-	}
-	return 1, report, err
+	return 1
 }
 
-func answer(history []byte, bounds []regcheck.Bound) (numbers, []byte) {
-	status, report, err := ask(history, bounds)
+func ask(history []byte, words []string) (uint32, []byte, error) {
+	switch len(words) {
+	case 0:
+		atomic, report, err := regcheck.Report(history)
+		return statusOf(atomic), report, err
+	case 1:
+		answer, err := regcheck.CheckLevel(history, regcheck.Level(words[0]))
+		return statusOf(answer.Kept), answer.Report, err
+	}
+	answer, err := regcheck.CheckHistory(history, boundsOf(words)...)
+	return statuses[answer.Verdict], answer.Report, err
+}
+
+func answer(history []byte, words []string) (numbers, []byte) {
+	status, report, err := ask(history, words)
 	var refusal *regcheck.Refusal
 	switch {
 	case errors.As(err, &refusal):
@@ -65,14 +74,13 @@ func boundsOf(words []string) []regcheck.Bound {
 func main() {
 	input, output := bufio.NewReader(os.Stdin), bufio.NewWriter(os.Stdout)
 	defer output.Flush()
-	bounds := boundsOf(os.Args[1:])
 	var length uint64
 	for binary.Read(input, binary.LittleEndian, &length) == nil {
 		history := make([]byte, length)
 		if _, err := io.ReadFull(input, history); err != nil {
 			log.Fatal(err)
 		}
-		said, bytes := answer(history, bounds)
+		said, bytes := answer(history, os.Args[1:])
 		if err := binary.Write(output, binary.LittleEndian, said); err != nil {
 			log.Fatal(err)
 		}
