@@ -69,9 +69,10 @@ def add_arguments(parser: argparse.ArgumentParser) -> None:
                         help="colour: on a terminal unless NO_COLOR is set (default), always, or never")
 
 
-def answered(data: bytes, level: Optional[str]) -> Found:
-    """The answer to the history in a file of any form. Raises NotTaken."""
-    options = ["--stale", *(["--require", level] if level else [])]
+def answered(data: bytes, arguments: argparse.Namespace) -> Found:
+    """The answer to the history in a file of any form. A page shows orders too. Raises NotTaken."""
+    level = arguments.require
+    options = ["--stale", *(["--orders"] if arguments.page else []), *(["--require", level] if level else [])]
     answer = run_levels(data, options)
     taken = taken_of(data, answer)
     if taken is None:
@@ -110,7 +111,7 @@ def told_of(name: str, arguments: argparse.Namespace, progress: Progress) -> int
     label, level = plain(shown_name(name)), arguments.require
     data = read_input(name)
     progress.step(f"{label}: deciding")
-    found = answered(data, level)
+    found = answered(data, arguments)
     levels = report_in(found, name, level)
     progress.step(f"{label}: reading", found.history.count(b"\n"))
     history = read_history(found.history, progress.reach)
