@@ -163,6 +163,7 @@ svg text.level-note{font-size:10.5px;fill:var(--dim)}
 """
 
 WALK = """
+:root{scroll-padding-bottom:240px}
 .walk{position:sticky;bottom:0;margin:24px -12px -40px;padding:8px 12px 10px;background:var(--paper);
   border-top:1px solid var(--edge);font-size:13px}
 .walk .tools,.walk .group{display:flex;flex-wrap:wrap;align-items:center;gap:6px 8px}
@@ -195,10 +196,10 @@ figure.current{box-shadow:-4px 0 0 -1px var(--edge)}
 svg [role=button]{cursor:pointer}
 svg.stretched{cursor:grab;touch-action:pan-y}
 .meanwhile{fill:var(--ink);opacity:.09}
-.chosen .edge,.now .edge{stroke:var(--ink);stroke-width:3}
 .found .edge{stroke:var(--ink);stroke-width:3;stroke-dasharray:6 2}
-.searching .bar[data-line]:not(.found),.waits{opacity:.25}
-.stepping .thread{opacity:.15}
+.chosen .edge,.now .edge{stroke:var(--ink);stroke-width:3;stroke-dasharray:none}
+.searching [data-line]:not(.found),.waits{opacity:.25}
+.stepping .thread,.searching .thread{opacity:.15}
 """
 
 CLUSTERS = ("first", "second", "third", "fourth")  # the classes of the values that a picture has a colour for

@@ -252,6 +252,16 @@ class Picture {
     this.placeShade();
   }
 
+  forget() {
+    this.chosen = undefined;
+    if (this.movers !== null) this.placeShade();
+  }
+
+  get isInSight() {
+    const {top, bottom} = this.svg.getBoundingClientRect();
+    return bottom > 0 && top < innerHeight;
+  }
+
   placeShade() {
     const [left, right] = (this.chosen ?? [this.from, this.from]).map(x => this.at(x));
     this.shade.setAttribute('x', left);
@@ -319,20 +329,42 @@ function links(found, go) {
   return rest === 0 ? shown : [...shown, `and ${counted(rest)} more in this picture`];
 }
 
+// ---- Orders
+
+/** The order whose operations a picture shows, if there is one. */
+function orderOf(picture) {
+  const lines = new Set(picture.things.map(lineOf));
+  return known.orders.find(order => order.steps.some(([line]) => lines.has(line)));
+}
+
+/** What has happened after some steps of an order. */
+function stepOf({steps: all, first, last, of}, steps) {
+  const count = `${counted(steps)} of ${counted(all.length)}`;
+  if (steps === 0) return `${count}: nothing here has taken effect; the register holds ${first}.`;
+  const [line, holds, place] = all[steps - 1];
+  if (steps < all.length) {
+    const number = of > all.length ? `, number ${counted(place)} of ${counted(of)},` : '';
+    const what = `the ${inShort(operations.get(line))}${number}`;
+    return `${count}: ${what} takes effect; then the register holds ${holds}.`;
+  }
+  const drawn = of > all.length ? ` operations drawn here, of ${counted(of)},` : ' operations';
+  const end = last || 'Move the slider to see them one by one.';
+  return `All ${counted(all.length)}${drawn} have taken effect; the register holds ${holds}. ${end}`;
+}
+
 // ---- What the reader does with all of this
 
 /** The bar at the foot of the window, and what its parts do to the pictures. */
 class Walk {
   constructor(pictures) {
     this.pictures = pictures;
-    this.current = pictures.find(picture => picture.hasTime) ?? pictures[0];
     this.found = [];
     this.place = 0; // among those found
     this.told = make('div', {className: 'told-of', hidden: true});
     this.told.setAttribute('aria-live', 'polite');
     this.build();
     this.pictures.forEach(picture => this.listen(picture));
-    this.turnTo(this.current);
+    this.turnTo(pictures.find(orderOf) ?? pictures.find(picture => picture.hasTime) ?? pictures[0]);
   }
 
   build() {
@@ -357,7 +389,10 @@ class Walk {
   }
 
   timeTools() {
-    const act = done => () => done(this.current);
+    const act = done => () => {
+      this.turnTo(this.pictureInSight());
+      done(this.current);
+    };
     this.zoom = [
       button('Zoom in', act(picture => picture.stretch(1.5)), 'Ctrl and the wheel; + on an operation'),
       button('Zoom out', act(picture => picture.stretch(1 / 1.5)), 'Ctrl and the wheel; - on an operation'),
@@ -391,6 +426,11 @@ class Walk {
     this.refresh();
   }
 
+  pictureInSight() {
+    if (this.current.isInSight) return this.current;
+    return this.pictures.find(picture => picture.hasTime && picture.isInSight) ?? this.current;
+  }
+
   refresh() {
     const {hasTime, scale} = this.current;
     const [nearer, farther, ...others] = this.zoom;
@@ -402,8 +442,7 @@ class Walk {
   // -- Orders
 
   turnToOrder(picture) {
-    const lines = new Set(picture.things.map(lineOf));
-    const order = known.orders.find(each => each.steps.some(([line]) => lines.has(line)));
+    const order = orderOf(picture);
     this.orderGroup.hidden = order === undefined;
     if (order === this.order) return;
     this.clearOrder();
@@ -441,18 +480,9 @@ class Walk {
   }
 
   tellStep(steps) {
-    const {steps: all, first, last, of} = this.order;
-    const count = `${counted(steps)} of ${counted(all.length)}`;
-    this.slider.setAttribute('aria-valuetext', count);
-    if (steps === 0) {
-      this.step.textContent = `${count}: nothing here has taken effect; the register holds ${first}.`;
-      return;
-    }
-    const [line, holds, place] = all[steps - 1];
-    const number = of > all.length ? `, number ${counted(place)} of ${counted(of)},` : '';
-    const end = steps === all.length && last ? ` ${last}` : '';
-    this.step.textContent = `${count}: the ${inShort(operations.get(line))}${number} takes effect; `
-      + `then the register holds ${holds}.${end}`;
+    const said = stepOf(this.order, steps);
+    this.step.textContent = said;
+    this.slider.setAttribute('aria-valuetext', said);
   }
 
   // -- Search
@@ -512,7 +542,7 @@ class Walk {
   forget() {
     this.told.hidden = true;
     document.querySelectorAll('.chosen').forEach(each => each.classList.remove('chosen'));
-    this.pictures.forEach(picture => picture.choose(null));
+    this.pictures.forEach(picture => picture.forget());
   }
 
   // -- What a pointer and keys do in a picture
