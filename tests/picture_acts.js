@@ -111,12 +111,16 @@ const acts = {
     const drawn = () => JSON.stringify([...svg.querySelectorAll('.edge, .arrow, .axis')].map(
       path => path.getAttribute('d')));
     const before = drawn();
+    const isWide = middle(svg).width > 1000; // a narrow picture grows first
     const bar = svg.querySelectorAll('.bar[data-line]')[2];
     const place = middle(bar).x;
     for (let turn = 0; turn < 4; turn += 1)
       svg.dispatchEvent(new WheelEvent('wheel', {deltaY: -100, ctrlKey: true, clientX: place, bubbles: true,
         cancelable: true}));
-    check(Math.abs(middle(bar).x - place) < 40, `the pointer was at ${place}, and is at ${middle(bar).x}`);
+    const now = middle(bar);
+    const box = middle(svg);
+    check(now.right > box.left + 90 && now.left < box.right, 'what the pointer was at is gone');
+    if (isWide) check(Math.abs(now.x - place) < 40, `the pointer was at ${place}, and is at ${now.x}`);
     const height = bar.querySelector('text')?.getBoundingClientRect().height;
     check(height === undefined || height < 30, 'letters are stretched');
     const here = middle(bar).x;
