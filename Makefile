@@ -55,7 +55,7 @@ STATIC := $(if $(filter arm64,$(ARCH)),bin/arm64,bin/static)
 # The number behind .so is that of the interface.
 SONAME := libregcheck.so.1
 SOURCES := $(shell find crates -name out -prune -o -type f \( -name '*.rt' -o -name '*.antt' \) -print)
-PYTHON := $(shell find python/regkit -name '*.py')
+PYTHON := $(shell find python/regkit -name '*.py' -o -name '*.js')
 # The packages for other languages, without what somebody built in their folders.
 PACKAGES := $(shell find clojure go java javascript rust -name target -prune -o -type f \
 	\( -name '*.clj' -o -name '*.go' -o -name '*.java' -o -name '*.cjs' -o -name '*.cts' -o -name '*.rs' \

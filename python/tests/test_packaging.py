@@ -103,8 +103,9 @@ class Wheel(unittest.TestCase):
         self.assertEqual(runs,
                          [f"regkit/{FILE}", *(f"{NAME}.data/scripts/{program}" for program in PROGRAMS)])
         python = ROOT / "python"
-        sources = {path.relative_to(python).as_posix() for path in python.glob("regkit/**/*.py")}
-        self.assertEqual({name for name in names if name.endswith(".py")}, sources)
+        sources = {path.relative_to(python).as_posix() for path in python.glob("regkit/**/*")
+                   if path.suffix in (".py", ".js")}
+        self.assertEqual({name for name in names if name.endswith((".py", ".js"))}, sources)
         self.assertIn("regkit/py.typed", names)
         self.assertIn(f"{NAME}.dist-info/sboms/{BILL}", names)
 

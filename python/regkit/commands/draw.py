@@ -29,8 +29,9 @@ examples:
   regkit draw h.jsonl --register x -o h.html  draws one register
   regkit draw history.edn -o h.html           a file of any form that `regkit convert` takes
 
-The page stands alone: one file, no script, nothing loaded. It begins with the fault of the first register
-that isn't linearizable. If all are, it shows the point at which each operation takes effect. If the search
+The page stands alone: one file, nothing loaded. Its one script lets you zoom, click on an operation, take the
+order step by step, and search; without scripts the page shows the same. It begins with the fault of the first
+register that isn't linearizable. If all are, it shows the point at which each operation takes effect. If the search
 gave up on some, it shows those and says what to do. Of a long history it shows windows around what matters,
 and says what is left out.
 

@@ -1,11 +1,12 @@
 """`regkit join`: the reports of the parts as the report of the whole history."""
 import argparse
 import sys
-from typing import NamedTuple, Sequence
+from typing import NamedTuple, Sequence, Union
 
 from regkit.base.limits import MAX_EVENTS
 from regkit.base.statuses import ExitStatus
-from regkit.checker.programs import CHECK, SEARCH
+from regkit.checker.levels import LEVELS, kept
+from regkit.checker.programs import CHECK, LEVEL, SEARCH
 from regkit.commands.stopping import complain
 from regkit.parts.answers import (STATUSES, Answered, PartOutcome, RefusedPart, Unanswered, command_again,
                                   outcomes)
@@ -17,16 +18,17 @@ HELP = "join the reports of the parts of a split history into the report of the 
 EPILOG = """\
 DIR is a folder that regkit split made, in which every part was checked: part-NNN.report, part-NNN.err and
 part-NNN.status are beside part-NNN.jsonl. The report is, byte for byte, the one that one run over the whole
-history would write: of regcheck, or of regsearch if that checked every part. docs/scale.md says more: it is
-in the repository, and in share/doc/regcheck of a release.
+history would write: of regcheck, or of regsearch or reglevel if that checked every part. Of reglevel it has
+no gaps: these count events, and a part has not all of them. docs/scale.md says more: it is in the repository,
+and in share/doc/regcheck of a release.
 
 examples:
   regkit join parts > history.report
   regkit join --order never parts > history.report
 
 exit status:
-  0  every part is atomic, so the whole history is
-  1  some part isn't
+  0  every part is atomic, or keeps the required level, so the whole history does
+  1  some part doesn't
   2  the history is refused; standard error says why, as the program would
   3  the command line is refused
   4  a part has no answer, or one of another program than all need: standard error names it, with the
@@ -40,7 +42,10 @@ def add_arguments(parser: argparse.ArgumentParser) -> None:
     parser.add_argument("--order", choices=["auto", "always", "never"], default="auto",
                         help="whether the summary has the merged order of all registers; auto, the default, "
                              f"is yes up to {MAX_EVENTS} events, as many as one run takes; a report of "
-                             "regsearch has none")
+                             "regsearch or reglevel has none")
+    parser.add_argument("--require", choices=LEVELS,
+                        help="of reports of reglevel: the level on which the exit status depends (default "
+                             "atomic)")
 
 
 def run(arguments: argparse.Namespace) -> int:
@@ -64,7 +69,7 @@ def run(arguments: argparse.Namespace) -> int:
         words = (f"the checker accepts line {manifest.stopped}, and regkit split could not read it, so no "
                  "later line was checked. This is a defect of regkit: please report the line")
         return complain("join", words, ExitStatus.FAILED)
-    return write([each for each in found if isinstance(each, Answered)], manifest, arguments.order)
+    return write([each for each in found if isinstance(each, Answered)], manifest, arguments)
 
 
 class Again(NamedTuple):
@@ -75,30 +80,43 @@ class Again(NamedTuple):
 
 
 def to_run_again(found: Sequence[PartOutcome], program: str) -> list[Again]:
-    """The parts without an answer; if there are none, those of regcheck if all need regsearch."""
+    """The parts without an answer; if there are none, those of another program than all need."""
     unanswered = [Again(each.part, f"has no answer: {each.why}")
                   for each in found if isinstance(each, Unanswered)]
-    if unanswered or program == CHECK:
+    if unanswered:
         return unanswered
-    return [Again(each.part, "was checked by regcheck, and all parts need regsearch") for each in found
-            if not isinstance(each, Unanswered) and each.program == CHECK]
+    return [Again(each.part, f"was checked by {each.program}, and all parts need {program}") for each in found
+            if not isinstance(each, Unanswered) and not is_of(each, program)]
+
+
+def is_of(part: Union[Answered, RefusedPart], program: str) -> bool:
+    """Whether a program may have answered so. The refusals of reglevel are those of regcheck."""
+    is_refusal_of_both = isinstance(part, RefusedPart) and program == LEVEL and part.program == CHECK
+    return part.program in (program, None) or is_refusal_of_both
 
 
 def program_to_run(found: Sequence[PartOutcome], manifest: Manifest) -> str:
-    """Which program is to check all parts: that of the manifest, or regsearch if any part has one of it."""
+    """Which program is to check all parts: that of the manifest, or regsearch if any part has one of it and
+    levels weren't asked for."""
     programs = [each.program for each in found if not isinstance(each, Unanswered)]
-    return SEARCH if SEARCH in programs else manifest.program
+    return SEARCH if SEARCH in programs and manifest.program == CHECK else manifest.program
 
 
-def write(parts: list[Answered], manifest: Manifest, order: str) -> int:
-    by_search = parts[0].program == SEARCH
-    if by_search and order == "always":
-        return complain("join", "a report of regsearch has no merged order: leave out --order",
+def write(parts: list[Answered], manifest: Manifest, arguments: argparse.Namespace) -> int:
+    program, order, level = parts[0].program, arguments.order, arguments.require
+    if program != CHECK and order == "always":
+        return complain("join", f"a report of {program} has no merged order: leave out --order",
                         ExitStatus.COMMAND_LINE)
+    if program != LEVEL and level:
+        return complain("join", f"a report of {program} has no levels: leave out --require, or split with "
+                        "--levels", ExitStatus.COMMAND_LINE)
     with_order = order == "always" or (order == "auto" and manifest.events <= MAX_EVENTS)
     with Progress() as progress:
         progress.step("joining", len(manifest.registers))
-        write_report(parts, manifest, with_order and not by_search, sys.stdout.buffer, progress.reach)
+        write_report(parts, manifest, with_order and program == CHECK, sys.stdout.buffer, progress.reach)
+    if program == LEVEL:
+        is_kept = all((level or "atomic") in kept(part.summary) for part in parts)
+        return ExitStatus.ATOMIC if is_kept else ExitStatus.NOT_ATOMIC
     return STATUSES[verdict_of(parts)]
 
 

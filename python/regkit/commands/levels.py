@@ -3,6 +3,7 @@ import argparse
 import os
 import pathlib
 import sys
+from functools import partial
 from typing import NamedTuple, Optional
 
 from regkit.base.garbage import many_objects
@@ -69,13 +70,14 @@ def add_arguments(parser: argparse.ArgumentParser) -> None:
                         help="colour: on a terminal unless NO_COLOR is set (default), always, or never")
 
 
-def answered(data: bytes, level: Optional[str]) -> Found:
-    """The answer to the history in a file of any form. Raises NotTaken."""
-    answer = judge_levels(data, level, stale=True)
+def answered(data: bytes, arguments: argparse.Namespace) -> Found:
+    """The answer to the history in a file of any form. A page shows orders too. Raises NotTaken."""
+    ask = partial(judge_levels, level=arguments.require, stale=True, orders=bool(arguments.page))
+    answer = ask(data)
     taken = taken_of(data, answer)
     if taken is None:
         return Found(data, answer, [])
-    return Found(taken.history, judge_levels(taken.history, level, stale=True), list(taken.told))
+    return Found(taken.history, ask(taken.history), list(taken.told))
 
 
 def refused(found: Found, name: str) -> Stop:
@@ -109,7 +111,7 @@ def told_of(name: str, arguments: argparse.Namespace, progress: Progress) -> int
     label, level = plain(shown_name(name)), arguments.require
     data = read_input(name)
     progress.step(f"{label}: deciding")
-    found = answered(data, level)
+    found = answered(data, arguments)
     levels = report_in(found, name, level)
     progress.step(f"{label}: reading", found.history.count(b"\n"))
     history = read_history(found.history, progress.reach)

@@ -28,13 +28,14 @@ HELP = "split a history of any size into parts that can be checked apart"
 EPILOG = """\
 Each part has whole registers, and is a history again. A history is atomic exactly if each of its registers
 is, so the parts answer for the whole: an engine checks each of them, then regkit join DIR. One program checks
-all parts, and split.json names it: regsearch if regcheck doesn't take a line or a value again, else regcheck.
-docs/scale.md says more. docs/ and engines/ are in the repository, and in share/doc/regcheck of a release.
+all parts, and split.json names it: regsearch if regcheck doesn't take a line or a value again, else regcheck;
+with --levels, reglevel. docs/scale.md says more. docs/ and engines/ are in the repository, and in share/doc/regcheck of a release.
 
 examples:
   regkit split history.jsonl parts --parts 8
   cat log.3 log.2 log.1 | regkit split - parts --parts 8
   engines/with_parallel parts; regkit join parts
+  regkit split history.jsonl parts --parts 8 --levels
 
 exit status:
   0    the parts are written
@@ -59,6 +60,8 @@ def add_arguments(parser: argparse.ArgumentParser) -> None:
     parser.add_argument("directory", metavar="DIR", help="the folder for the parts: new, or empty")
     parser.add_argument("--parts", metavar="N", type=part_count, required=True,
                         help=f"how many, 1 to {MAX_PARTS}: the number of events divided by 700,000, or more")
+    parser.add_argument("--levels", action="store_true",
+                        help="let the parts be checked by reglevel, for which levels each register kept")
     parser.add_argument("--lines", choices=["auto", BLANK, MAP], default="auto",
                         help="what keeps the line numbers of the whole: blank lines in each part, or a map "
                              "beside it; auto, the default, is blank lines up to 1 GiB of history, and a map "
@@ -84,7 +87,7 @@ def split_named(arguments: argparse.Namespace) -> Manifest:
     with opened(arguments.history) as stream, many_objects(), Progress() as progress:
         size = size_of(stream)
         lines = line_form(arguments.lines, size)
-        plan = Plan(arguments.history, arguments.directory, arguments.parts, lines)
+        plan = Plan(arguments.history, arguments.directory, arguments.parts, lines, arguments.levels)
         progress.step("splitting", size or 0)
         return split(stream, plan, progress.reach)
 

@@ -65,7 +65,7 @@ def bar_group(bar: Bar, scene: Scene, gutter: float, top: float) -> str:
             parts.append(SIGNS[sign](x, top + shapes.HEIGHT / 2))
             x += SIGN
     parts.append(svg.title(bar_title(bar)))
-    return tag("g", "".join(parts), class_=classes(bar))
+    return tag("g", "".join(parts), class_=classes(bar), data_line=bar.operation.line)
 
 
 def label(bar: Bar, x: float, y: float) -> str:
@@ -82,6 +82,7 @@ def label(bar: Bar, x: float, y: float) -> str:
 class Spot(NamedTuple):
     """Where an operation takes effect."""
 
+    line: int
     place: int  # in the order
     x: float
     y: float
@@ -99,7 +100,8 @@ def spots_of(bars: list[Bar], scene: Scene, gutter: float, lane_top: Callable[[i
         used[point] = used.get(point, 0) + 1
         step = axis.step_behind(point) / (register.effects[point] + 1)
         x = gutter + axis.end_at(point) + step * used[point]
-        spots.append(Spot(register.place_of[bar.operation.line], x, lane_top(bar.begin) + shapes.HEIGHT))
+        line = bar.operation.line
+        spots.append(Spot(line, register.place_of[line], x, lane_top(bar.begin) + shapes.HEIGHT))
     return spots
 
 
@@ -115,5 +117,5 @@ def points_of(spots: list[Spot]) -> list[str]:
     parts = []
     for spot in spots:
         words = svg.title(f"Number {spot.place} in the order takes effect here.")
-        parts.append(tag("g", shapes.diamond(spot.x, spot.y) + words))
+        parts.append(tag("g", shapes.diamond(spot.x, spot.y) + words, data_line=spot.line))
     return parts

@@ -1,4 +1,4 @@
-"""A history and its report as one page that stands alone: no script, nothing loaded."""
+"""A history and its report as one page that stands alone: nothing is loaded."""
 from regkit.base.garbage import many_objects
 from regkit.checker.report import Report, read_report
 from regkit.drawing.page import DrawSettings, page

@@ -6,7 +6,7 @@ from regkit.drawing.axis import Gap
 from regkit.drawing.barmarks import bar_group, points_of, spots_of, thread_of
 from regkit.drawing.bars import LETTER, SMALL_LETTER, Bar, label_of, shown_value
 from regkit.drawing.marks import Arrow, Marks, Zone
-from regkit.drawing.ruler import OVERVIEW_LABEL, ruler, ruler_height
+from regkit.drawing.ruler import OVERVIEW_LABEL, overview, ruler, ruler_height
 from regkit.drawing.scene import Scene
 from regkit.drawing.svg import tag, text
 from regkit.explain.sentences import precedence, value_of
@@ -88,11 +88,16 @@ class Figure:
         for bar in self.drawn:
             parts.append(bar_group(bar, self.scene, self.gutter, self.lane_top(bar.begin)))
         parts += self.crashes() + self.gaps() + self.heads() + points_of(spots)
-        parts.append(tag("g", "".join(ruler(self.scene, self.history, self.lanes_end)),
-                         transform=f"translate({svg.number(self.gutter)} 0)"))
+        parts.append(self.below("ruler", ruler(self.scene, self.lanes_end)))
+        if self.scene.left_out:
+            parts.append(self.below("overview", overview(self.scene, self.history, self.lanes_end)))
         size = f"0 0 {svg.number(self.width)} {svg.number(self.height)}"
         return tag("svg", "".join(parts), width=self.width, height=self.height, viewBox=size, role="img",
-                   aria_label=label)
+                   aria_label=label, data_from=self.gutter, data_to=self.width - RIGHT)
+
+    def below(self, name: str, parts: list[str]) -> str:
+        """What stands below the lanes and counts its places from the axis on."""
+        return tag("g", "".join(parts), class_=name, transform=f"translate({svg.number(self.gutter)} 0)")
 
     def rules(self) -> list[str]:
         """A faint line for each process, with its label. Lanes that processes share have none."""
@@ -153,7 +158,7 @@ class Figure:
             left, right = self.feet(arrow)
             foot, head = self.top_of(arrow.before.line), self.top_of(arrow.after.line)
             content = (tag("circle", cx=left, cy=foot, r=3) +
-                       tag("path", d=shapes.path("M", right - 4.5, head - 7, "h 9 l -4.5 8 z")))
+                       tag("path", d=shapes.path("M", right - 4.5, head - 7, "h 9 l -4.5 8 z"), data_x=right))
             parts += [tag("g", content, class_=f"head {arrow.cluster}"),
                       shapes.badge(left + 16, self.row(arrow), str(arrow.number), arrow.cluster)]
         return parts

@@ -1,6 +1,4 @@
 """The page: the verdict in words, the legend, and a section for each register that is shown."""
-import base64
-import hashlib
 import pathlib
 from typing import NamedTuple, Optional, Sequence
 
@@ -11,6 +9,7 @@ from regkit.drawing.section import section
 from regkit.drawing.style import STYLE
 from regkit.drawing.svg import tag
 from regkit.drawing.text import attribute, name, with_code, words
+from regkit.drawing.walk import SCRIPT, known, scripts, source_of
 from regkit.explain.shrinking import ShrinkSettings
 from regkit.history.operations import History
 from regkit.words.levels import kept_in_words
@@ -36,11 +35,12 @@ class DrawSettings(NamedTuple):
     kept: Optional[Sequence[str]] = None  # the strongest levels that a faulty history kept, if they are known
 
 
-def policy() -> str:
-    """Nothing is loaded and nothing runs. The one style sheet is named by its hash, so that even a style
-    that found its way into the page would do nothing."""
-    digest = base64.b64encode(hashlib.sha256(STYLE.encode("utf-8")).digest()).decode("ascii")
-    return f"default-src 'none'; style-src 'sha256-{digest}'; base-uri 'none'; form-action 'none'"
+def policy(with_script: bool) -> str:
+    """Nothing is loaded. The one style sheet and the one script are named by their hashes, so that even a
+    style or a script that found its way into the page would do nothing."""
+    script = f" script-src {source_of(SCRIPT)};" if with_script else ""
+    return (f"default-src 'none'; style-src {source_of(STYLE)};{script} base-uri 'none'; "
+            "form-action 'none'")
 
 
 def chosen_rows(history: History, report: Report, settings: DrawSettings) -> list[Row]:
@@ -119,7 +119,8 @@ def page(history: History, report: Report, title: str, settings: DrawSettings) -
     for number, each in enumerate(sections):
         body.append(tag("section", each.heading + (key if number == 0 else "") + each.pictures))
     body.append(left_out(history, report, rows))
-    return document(f"{capital(verdict_word(report))}: {title}", "\n".join(body))
+    drawn = known((scene for each in sections for scene in each.scenes), (each.order for each in sections))
+    return document(f"{capital(verdict_word(report))}: {title}", "\n".join(body), drawn if rows else None)
 
 
 def left_out(history: History, report: Report, rows: list[Row]) -> str:
@@ -147,8 +148,10 @@ def listed(names: list[str]) -> str:
     return ", ".join(map(name, names[:MOST_LISTED])) + more
 
 
-def document(title: str, body: str) -> str:
+def document(title: str, body: str, drawn: Optional[str] = None) -> str:
+    """A whole page. If it has pictures, `drawn` is what the script has to know of them."""
     return ('<!doctype html>\n<html lang="en" dir="ltr"><head><meta charset="utf-8">'
-            f'<meta http-equiv="Content-Security-Policy" content="{policy()}">'
+            f'<meta http-equiv="Content-Security-Policy" content="{policy(drawn is not None)}">'
             '<meta name="viewport" content="width=device-width, initial-scale=1">'
-            f"<title>{attribute(title)}</title><style>{STYLE}</style></head>\n<body>{body}</body></html>\n")
+            f"<title>{attribute(title)}</title><style>{STYLE}</style></head>\n<body>{body}"
+            f"{'' if drawn is None else scripts(drawn)}</body></html>\n")

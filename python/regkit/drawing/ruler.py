@@ -15,12 +15,9 @@ def ruler_height(scene: Scene) -> float:
     return NUMBERS + (OVERVIEW if scene.left_out else 0.0)
 
 
-def ruler(scene: Scene, history: History, top: float) -> list[str]:
-    parts = [tag("path", class_="axis", d=baseline(scene, top + 2))]
-    parts += left_out(scene, top) + numbers(scene, top)
-    if scene.left_out:
-        parts += overview(scene, history, top + NUMBERS)
-    return parts
+def ruler(scene: Scene, top: float) -> list[str]:
+    return [tag("path", class_="axis", d=baseline(scene, top + 2)), *left_out(scene, top),
+            *numbers(scene, top)]
 
 
 def baseline(scene: Scene, y: float) -> str:
@@ -59,8 +56,8 @@ def numbers(scene: Scene, top: float) -> list[str]:
 
 
 def overview(scene: Scene, history: History, top: float) -> list[str]:
-    """A line for the whole history, with the windows and the zones in their places."""
-    width, middle = scene.axis.right, top + 10
+    """Below the ruler, a line for the whole history, with the windows and the zones in their places."""
+    width, middle = scene.axis.right, top + NUMBERS + 10
     scale = width / max(1, history.last_line)
     line = shapes.path("M", 0.0, middle, "H", width, "M", 0.0, middle - 4, "v 8 M", width, middle - 4, "v 8")
     parts = [text(-12, middle + 4, OVERVIEW_LABEL, "gutter"), tag("path", class_="axis", d=line)]

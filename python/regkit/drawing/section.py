@@ -9,6 +9,7 @@ from regkit.drawing.reduced import Reduced, reduced, table
 from regkit.drawing.scene import Register, Scene, fitted, strips
 from regkit.drawing.svg import tag
 from regkit.drawing.text import name, with_code, words
+from regkit.drawing.walk import Order
 from regkit.explain import causes, sentences
 from regkit.explain.searched import contradicted, is_unwritten, sentences_of, what_to_do
 from regkit.explain.sentences import named
@@ -28,6 +29,7 @@ class Section(NamedTuple):
     heading: str
     pictures: str
     scenes: list[Scene]
+    order: Optional[Order]  # in which the script shows what takes effect
 
 
 class Author:
@@ -47,7 +49,7 @@ class Author:
         if "cas" in self.row and self.row["atomic"] != "yes":
             return self.of_search(heading)
         if self.row.get("atomic") != "no":
-            return Section(heading, self.whole(Marks(), FIRST_EVENTS), self.scenes)
+            return Section(heading, self.whole(Marks(), FIRST_EVENTS), self.scenes, self.order())
         marks = marks_of_fault(self.history, self.row)
         heading += reasons(sentences.fault_of(self.history, self.row), numbered=bool(marks.arrows))
         for sentence in sentences.inversion(self.history, self.row):
@@ -67,13 +69,19 @@ class Author:
         pictures = self.windows(marks, "the fault of the register") + pictures
         if len(self.register.events) <= WHOLE and all(scene.left_out for scene in self.scenes):
             pictures += tag("h3", "The whole register") + self.whole(marks.without_arrows(), WHOLE)
-        return Section(heading, pictures, self.scenes)
+        return Section(heading, pictures, self.scenes, None)
+
+    def order(self) -> Optional[Order]:
+        """The order of a yes."""
+        by_line = {call.line: call for call in self.calls}
+        lines = self.row.get("order", [])
+        return Order("Order", [by_line[line] for line in lines]) if lines else None
 
     def of_search(self, heading: str) -> Section:
         """What a search found, in sentences and around the reply that no order gives; or what it gave up."""
         if self.row["atomic"] == "unknown":
             heading += tag("p", with_code(capital(what_to_do([self.row])) + "."))
-            return Section(heading, self.whole(Marks(), FIRST_EVENTS), self.scenes)
+            return Section(heading, self.whole(Marks(), FIRST_EVENTS), self.scenes, None)
         marks = marks_of_search(self.history, self.row)
         said = sentences_of(self.history, self.row)
         heading += reasons(said[:1], numbered=False)
@@ -85,7 +93,15 @@ class Author:
             pictures += tag("h3", "The whole register") + self.whole(marks.without_arrows(), WHOLE)
         if small is not None:
             pictures = self.enough(small, marks, pictures)
-        return Section(heading, pictures, self.scenes)
+        return Section(heading, pictures, self.scenes, self.order_before())
+
+    def order_before(self) -> Optional[Order]:
+        """An order of what was known before the reply that no order gives, if the search found one."""
+        told = None if is_unwritten(self.row) else contradicted(self.history, self.row)
+        if told is None or not told.before:
+            return None
+        return Order(f"Order until line {told.line}", told.before,
+                     f"After that, no order gives the reply of line {told.line}.")
 
     def enough(self, small: Reduced, marks: Marks, pictures: str) -> str:
         """What is enough for the fault, before the pictures of what is around it."""

@@ -73,7 +73,8 @@ def tilde(x: float, y: float) -> str:
 
 def bolt(x: float, y: float) -> str:
     """The sign of a crash."""
-    return tag("path", class_="bolt", d=path("M", x + 2, y - 9, "l -7 10 h 4.5 l -2 8 l 7.5 -11 h -4.5 z"))
+    d = path("M", x + 2, y - 9, "l -7 10 h 4.5 l -2 8 l 7.5 -11 h -4.5 z")
+    return tag("path", class_="bolt", data_x=x, d=d)
 
 
 def diamond(x: float, y: float) -> str:

@@ -162,6 +162,46 @@ svg text.level-note{font-size:10.5px;fill:var(--dim)}
 .badge.step text{fill:var(--paper)}
 """
 
+WALK = """
+:root{scroll-padding-bottom:240px}
+.walk{position:sticky;bottom:0;margin:24px -12px -40px;padding:8px 12px 10px;background:var(--paper);
+  border-top:1px solid var(--edge);font-size:13px}
+.walk .tools,.walk .group{display:flex;flex-wrap:wrap;align-items:center;gap:6px 8px}
+.walk .tools{justify-content:space-between;column-gap:24px}
+.walk [hidden]{display:none}
+.walk label{display:flex;align-items:center;gap:8px;color:var(--dim)}
+.walk input,.walk button{font:inherit;color:var(--ink)}
+.walk button,.walk input[type=search]{padding:2px 8px;border:1px solid var(--edge);border-radius:4px;
+  background:var(--chip)}
+.walk input[type=search]{width:14em;background:var(--paper)}
+.walk input[type=range]{width:18em;max-width:60vw;accent-color:var(--good)}
+.walk button{cursor:pointer}
+.walk button:disabled{color:var(--dim);background:none;border-color:var(--faint);cursor:default}
+.walk output,.walk .which{color:var(--dim)}
+.walk .order{margin-bottom:8px}
+.walk .order output{color:var(--ink);flex:1 1 20em}
+.walk :focus-visible,svg [role=button]:focus-visible{outline:2px solid var(--one);outline-offset:2px}
+.told-of{position:relative;max-height:40vh;overflow-y:auto;margin-bottom:8px;padding:0 64px 8px 0;
+  border-bottom:1px solid var(--faint)}
+.told-of p{margin:0}
+.told-of>button{position:absolute;top:0;right:0}
+.told-of dl{display:flex;flex-wrap:wrap;gap:2px 24px;margin:4px 0 0}
+.told-of dl div{display:flex;gap:8px}
+.told-of dt{color:var(--dim);white-space:nowrap}
+.told-of dd{margin:0;overflow-wrap:anywhere;unicode-bidi:isolate}
+.told-of dd button{border:0;padding:0;margin-right:12px;background:none;text-decoration:underline;
+  text-align:left}
+.chosen-name{font-weight:600}
+figure.current{box-shadow:-4px 0 0 -1px var(--edge)}
+svg [role=button]{cursor:pointer}
+svg.stretched{cursor:grab;touch-action:pan-y}
+.meanwhile{fill:var(--ink);opacity:.09}
+.found .edge{stroke:var(--ink);stroke-width:3;stroke-dasharray:6 2}
+.chosen .edge,.now .edge{stroke:var(--ink);stroke-width:3;stroke-dasharray:none}
+.searching [data-line]:not(.found),.waits{opacity:.25}
+.stepping .thread,.searching .thread{opacity:.15}
+"""
+
 CLUSTERS = ("first", "second", "third", "fourth")  # the classes of the values that a picture has a colour for
 
 PRINT = """
@@ -169,6 +209,8 @@ PRINT = """
 body{padding:0;max-width:none;print-color-adjust:exact;-webkit-print-color-adjust:exact}
 figure{break-inside:avoid;overflow:visible}
 h2,h3,ol.reasons,.legend{break-after:avoid}
+.walk{display:none}
+figure.current{box-shadow:none}
 """
 
 NARROW = "body{padding:20px 16px} figure>svg{max-width:none}"
@@ -176,7 +218,7 @@ NARROW = "body{padding:20px 16px} figure>svg{max-width:none}"
 STYLE = f"""
 :root{{color-scheme:light dark;{LIGHT}}}
 @media screen and (prefers-color-scheme:dark){{:root{{{DARK}}}}}
-{WORDS}{PICTURES}{LEVELS}
+{WORDS}{PICTURES}{LEVELS}{WALK}
 @media screen and (max-width:760px){{{NARROW}}}
 @media print{{{PRINT}}}
 """.replace("MONOSPACE", MONOSPACE)

@@ -1,6 +1,6 @@
 """What the runs of the parts left: of each part its report, its refusal, or why it has no answer.
 
-One program checked all parts, `regcheck` or `regsearch`."""
+One program checked all parts, `regcheck`, `regsearch` or `reglevel`."""
 import json
 import pathlib
 import resource
@@ -9,7 +9,8 @@ from contextlib import suppress
 from typing import Callable, Iterator, NamedTuple, Optional, Union
 
 from regkit.base.statuses import ExitStatus
-from regkit.checker.programs import CHECK, SEARCH, find_program
+from regkit.checker.levels import LEVELS, kept
+from regkit.checker.programs import CHECK, LEVEL, SEARCH, find_program
 from regkit.checker.refusals import (BAD_OP, REPEATED, SEARCH_TEXTS, TEXTS, Refusal, read_refusal,
                                      same_line)
 from regkit.checker.report import Row
@@ -26,8 +27,12 @@ class Answered(NamedTuple):
     program: str  # which wrote the report
     report: pathlib.Path
     line_of: LineOf
-    atomic: str  # yes, no or unknown
-    operations: int
+    summary: Row
+
+    @property
+    def atomic(self) -> str:
+        """Yes, no or unknown."""
+        return str(self.summary["atomic"])
 
 
 class RefusedPart(NamedTuple):
@@ -93,11 +98,24 @@ def outcome(directory: str, part: int, registers: int, line_of: LineOf) -> PartO
         return Unanswered(part, f"status {status or 'unknown'}" + (f": {words}" if words else ""))
     report = file_of(directory, part, "report")
     first, summary = ends_of(report, registers)
-    if summary["atomic"] != verdicts[status]:
+    program = program_of_report(first if registers else summary, bool(registers))
+    if verdicts[status] not in verdicts_of(summary, program):
         raise ValueError(f"{report} does not fit its status {status}")
-    by_search = "cas" in first if registers else "order" not in summary
-    program = SEARCH if by_search else CHECK
-    return Answered(part, program, report, line_of, verdicts[status], summary["operations"])
+    return Answered(part, program, report, line_of, summary)
+
+
+def program_of_report(row: Row, is_register: bool) -> str:
+    """Which program wrote the line of a register; or a summary, if there are no registers."""
+    if "session" in row:
+        return LEVEL
+    return SEARCH if ("cas" in row if is_register else "order" not in row) else CHECK
+
+
+def verdicts_of(summary: Row, program: str) -> set[str]:
+    """What a program's exit status may say with this summary. That of reglevel is of any level."""
+    if program == LEVEL:
+        return {"yes" if level in kept(summary) else "no" for level in LEVELS}
+    return {summary["atomic"]}
 
 
 def program_of_refusal(refusal: Refusal) -> Optional[str]:

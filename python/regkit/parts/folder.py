@@ -22,7 +22,7 @@ class Manifest(NamedTuple):
     history: str  # the name of its file
     lines: str  # BLANK or MAP
     parts: int
-    program: str  # that takes all parts: regcheck or regsearch
+    program: str  # for all parts: regcheck, regsearch or reglevel
     events: int  # of the whole history, each counted once
     last_line: int  # the last line that was read
     stopped: Optional[int]  # the line that was sure to be refused; nothing after it was read

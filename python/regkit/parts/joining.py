@@ -4,13 +4,19 @@ from array import array
 from contextlib import ExitStack
 from typing import Any, BinaryIO, Callable, Iterator, Optional, Sequence
 
+from regkit.checker.levels import HALVES, LEVELS, kept
+from regkit.checker.programs import LEVEL
 from regkit.checker.refusals import same_line
 from regkit.checker.report import Row
 from regkit.parts.answers import Answered, LineOf
 from regkit.parts.folder import MAP, Manifest
 
 # The keys of a register's line whose values are line numbers.
-LINE_KEYS = ("fault", "inversion", "order", "points", "regular_read", "safe_read")
+LINE_KEYS = {"fault", "inversion", "order", "points", "regular_read", "safe_read", "unwritten", "early",
+             "gap", "stale_reads", "stale_read", "own_read", "back_read", "inverted_read", "lost_write",
+             *(f"{level}_fault" for level in ("session", *HALVES, "sequential"))}
+NO_LINES = {"kind", "events"}  # the keys within these whose values are none
+SUMS = ("back", "inverted", "lost", "operations", "own", "reads", "registers", "stale")
 GRAVITY = ("no", "unknown", "yes")  # of the parts' verdicts, the first that there is is that of the whole
 
 
@@ -46,11 +52,15 @@ def write_report(parts: Sequence[Answered], manifest: Manifest, with_order: bool
         reports = [opened.enter_context(open(part.report, "rb")) for part in parts]
         for done, part in enumerate(manifest.registers):
             row = reports[part].readline()
-            if merge is not None or manifest.lines == MAP:
-                row = whole_row(row, parts[part].line_of, merge)
+            if merge is not None or manifest.lines == MAP or without_gaps(parts):
+                row = whole_row(row, parts[part].line_of, merge, without_gaps(parts))
             out.write(row)
             reach(done)
-    operations = sum(part.operations for part in parts)
+    if parts[0].program == LEVEL:
+        out.write(text_of(levels_summary([part.summary for part in parts])))
+        out.flush()
+        return
+    operations = sum(part.summary["operations"] for part in parts)
     out.write(b'{"atomic":"%s","operations":%d,' % (atomic.encode(), operations))
     if merge is not None:
         out.write(b'"order":[%s],' % ",".join(map(str, merge.order())).encode())
@@ -58,23 +68,49 @@ def write_report(parts: Sequence[Answered], manifest: Manifest, with_order: bool
     out.flush()
 
 
-def whole_row(line: bytes, line_of: LineOf, merge: Optional[MergedOrder]) -> bytes:
+def without_gaps(parts: Sequence[Answered]) -> bool:
+    """Whether the gaps of registers are left out. A gap counts the events between two operations, and a part
+    has not all of them."""
+    return parts[0].program == LEVEL and len(parts) > 1
+
+
+def levels_summary(summaries: Sequence[Row]) -> Row:
+    """The summary of reglevel for the whole."""
+    found: Row = {key: sum(summary[key] for summary in summaries) for key in SUMS}
+    found.update({level: "yes" if all(level in kept(summary) for summary in summaries) else "no"
+                  for level in LEVELS})
+    if found["session"] == "yes":
+        found = {key: value for key, value in found.items() if key not in HALVES}
+    unclean = sum(summary.get("unclean", 0) for summary in summaries)
+    if unclean:
+        found["unclean"] = unclean
+    if len(summaries) == 1 and "gap" in summaries[0]:
+        found["gap"] = summaries[0]["gap"]
+    return dict(sorted(found.items()))
+
+
+def text_of(row: Row) -> bytes:
+    return json.dumps(row, separators=(",", ":"), ensure_ascii=False).encode("utf-8") + b"\n"
+
+
+def whole_row(line: bytes, line_of: LineOf, merge: Optional[MergedOrder], without_gap: bool) -> bytes:
     """The line of a register with the lines of the whole. Its order is added to the merged one."""
     row = json.loads(line)
+    if without_gap:
+        row.pop("gap", None)
     if line_of is not same_line:
         row = {key: relined(value, line_of) if key in LINE_KEYS else value for key, value in row.items()}
-        line = json.dumps(row, separators=(",", ":"), ensure_ascii=False).encode("utf-8") + b"\n"
     if merge is not None:
         merge.add(row)
-    return line
+    return text_of(row) if without_gap or line_of is not same_line else line
 
 
 def relined(value: Any, line_of: LineOf) -> Any:
-    """A line, a list of lines, or a fault: its kind, lines and lists."""
+    """A line, a list, or an object: its lines, lists and objects, and what isn't a line as it is."""
     if isinstance(value, int):
         return line_of(value)
     if isinstance(value, list):
-        return [line_of(line) for line in value]
+        return [relined(part, line_of) for part in value]
     if isinstance(value, dict):
-        return {key: relined(part, line_of) for key, part in value.items()}
+        return {key: part if key in NO_LINES else relined(part, line_of) for key, part in value.items()}
     return value

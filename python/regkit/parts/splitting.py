@@ -3,7 +3,7 @@ import errno
 import os
 from typing import BinaryIO, Callable, Optional, Sequence
 
-from regkit.checker.programs import CHECK, SEARCH
+from regkit.checker.programs import CHECK, LEVEL, SEARCH
 from regkit.parts.blocks import blocks_of
 from regkit.parts.folder import MANIFEST, Manifest, file_of, write_manifest
 from regkit.parts.routing import CertainRefusal, Router
@@ -68,7 +68,7 @@ def write_parts(history: BinaryIO, plan: Plan, router: Router, writers: Sequence
         writer.close()
     events = sum(part.count for part in router.parts) - again
     registers = [part.number for part in router.registers.values()]
-    program = program_for(router, writers)
+    program = LEVEL if plan.for_levels else program_for(router, writers)
     return Manifest(plan.name, plan.lines, plan.parts, program, events, router.lines, stopped, registers)
 
 

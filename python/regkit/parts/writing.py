@@ -20,6 +20,7 @@ class Plan(NamedTuple):
     directory: str
     parts: int
     lines: str  # BLANK or MAP
+    for_levels: bool = False  # whether the parts are for reglevel
 
 
 class PartWriter:

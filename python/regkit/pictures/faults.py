@@ -8,6 +8,7 @@ from regkit.drawing.section import Author, with_signs
 from regkit.drawing.style import CLUSTERS
 from regkit.drawing.svg import tag
 from regkit.drawing.text import name, words
+from regkit.drawing.walk import Order
 from regkit.explain import sentences
 from regkit.explain.causes import ended_before
 from regkit.explain.shrinking import ShrinkSettings
@@ -30,6 +31,7 @@ class Section(NamedTuple):
     heading: str
     pictures: str
     author: Author
+    order: Optional[Order]  # in which the script shows what takes effect
 
 
 def clusters_of(fault: Fault) -> list[str]:
@@ -117,4 +119,12 @@ def section(subject: Subject, row: Row) -> Section:
     """The pictures of one register."""
     author = Author(subject.history, {"register": row["register"]}, ShrinkSettings())
     pictures = "".join(parts_of(subject, row, author))
-    return Section(tag("h2", "Register " + name(row["register"])), pictures, author)
+    return Section(tag("h2", "Register " + name(row["register"])), pictures, author, order_of(subject, row))
+
+
+def order_of(subject: Subject, row: Row) -> Optional[Order]:
+    """An order that keeps the strongest level that one shows, if the report has it."""
+    if "order" not in row:
+        return None
+    found = [subject.operation(row, line) for line in row["order"]]
+    return Order(f"An order that keeps {in_words([row['order_of']])}", found)

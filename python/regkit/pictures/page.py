@@ -1,11 +1,13 @@
 """The page: what held in words, the ladder, how old stale reads were and when they came, and the faults."""
 from typing import Sequence
 
-from regkit.checker.levels import LEVELS, kept, strongest
+from regkit.checker.levels import kept, strongest
+from regkit.checker.report import Row
 from regkit.drawing.legend import legend
 from regkit.drawing.page import CROSS, STRIPES, TICK, document, listed, verdict_icon
 from regkit.drawing.svg import tag
 from regkit.drawing.text import name, with_code, words
+from regkit.drawing.walk import known
 from regkit.levels.account import account, below_title
 from regkit.levels.ages import oldest_first, stale_reads
 from regkit.levels.subject import Subject
@@ -60,14 +62,16 @@ def staleness(subject: Subject) -> str:
             + tag("h2", "When reads were stale") + tag("p", words(BURSTS), class_="sub") + when)
 
 
-def faults(subject: Subject) -> str:
-    """The faults of the registers that broke most, and the names of the others that broke a level."""
-    broken = sorted((row for row in subject.levels.rows if "atomic" not in kept(row)), key=worst_first)
-    sections: list[Section] = [section(subject, row) for row in broken[:MOST]]
+def broken_rows(subject: Subject) -> list[Row]:
+    """The registers that broke a level, the worst first."""
+    return sorted((row for row in subject.levels.rows if "atomic" not in kept(row)), key=worst_first)
+
+
+def faults(subject: Subject, sections: list[Section], rest: list[str]) -> str:
+    """The faults of some registers, and the names of the others that broke a level."""
     key = legend((scene for each in sections for scene in each.author.scenes), bool(subject.history.crashes))
     text = "".join(tag("section", each.heading + (key if number == 0 else "") + each.pictures)
                    for number, each in enumerate(sections))
-    rest = [row["register"] for row in broken[MOST:]]
     if not rest:
         return text
     verb = "isn't" if len(rest) == 1 else "aren't"
@@ -77,6 +81,11 @@ def faults(subject: Subject) -> str:
 
 def levels_page(subject: Subject, title: str, more: Sequence[str] = ()) -> str:
     """The page of a history by the name of its file. `more` is what there is to say of that file."""
+    broken = broken_rows(subject)
+    sections = [section(subject, row) for row in broken[:MOST]]
+    rest = [row["register"] for row in broken[MOST:]]
     body = [STRIPES, top(subject, title), told(subject, more), tag("h2", "The levels"),
-            ladder(subject.levels), staleness(subject), table(subject), faults(subject)]
-    return document(f"{title_of(subject)}: {title}", "\n".join(filter(None, body)))
+            ladder(subject.levels), staleness(subject), table(subject), faults(subject, sections, rest)]
+    drawn = known((scene for each in sections for scene in each.author.scenes),
+                  (each.order for each in sections))
+    return document(f"{title_of(subject)}: {title}", "\n".join(filter(None, body)), drawn)

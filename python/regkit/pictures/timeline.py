@@ -54,8 +54,8 @@ class Timeline:
         strips, parts = [], []
         for part in sorted(row.reads):
             left = self.gutter + self.width * part
-            strips.append(f"M {svg.number(left)} {svg.number(base)} h {svg.number(self.width)} v 3 h "
-                          f"{svg.number(-self.width)} z")
+            strips.append(f"M {svg.number(left)} {svg.number(base)} H {svg.number(left + self.width)} v 3 H "
+                          f"{svg.number(left)} z")
             if row.stale[part]:
                 height = max(LEAST, (ROW - BASE - 8) * row.stale[part] / self.most)
                 said = f"{row.stale[part]:,} of {counted(row.reads[part], 'read')} stale, {self.span(part)}"
@@ -83,7 +83,8 @@ class Timeline:
             parts.append(text(self.gutter - 12, TOP + ROW * (place + 1) - BASE, self.labels[place], "gutter"))
             parts += self.bars(place, row)
         size = Size(PAGE_WIDTH, self.bottom + BELOW)
-        return figure(parts + self.axis(), size, self.label(), self.caption())
+        time = self.gutter, PAGE_WIDTH - RIGHT
+        return figure(parts + self.axis(), size, self.label(), self.caption(), time)
 
     def label(self) -> str:
         said = [f"{name} {sum(row.stale.values()):,} of {counted(sum(row.reads.values()), 'read')}"

@@ -85,7 +85,7 @@ def _verify_levels(history: bytes, rows: list[Row], joined: bool) -> Verified:
     """The same of a report of reglevel."""
     read = _accepted(history, limits=not joined)
     places = {0: 0, **{line: place for place, (line, _) in enumerate(numbered_lines(history), 1)}}
-    check_levels_report(read, rows, places)
+    check_levels_report(read, rows, places, joined)
     summary = rows[-1]
     kept = [level for level in (*LEVELS, *HALVES) if summary.get(level, summary["session"]) == "yes"]
     faulty = sum(row["atomic"] == "no" for row in rows[:-1])

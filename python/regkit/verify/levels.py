@@ -15,17 +15,18 @@ BY_STRENGTH = ("atomic", "session", *HALVES, "sequential")  # those that an orde
 COUNTS = ("stale", "own", "back", "inverted", "lost")
 
 
-def check_levels_report(history: History, rows: Sequence[Row], places: Places) -> None:
-    """Checks each claim of a report of reglevel. Raises Wrong."""
+def check_levels_report(history: History, rows: Sequence[Row], places: Places, joined: bool) -> None:
+    """Checks each claim of a report of reglevel. One that was joined may have no gaps. Raises Wrong."""
     *lines, summary = rows
+    with_gaps = not joined or any("gap" in line for line in lines)
     named = [line.get("register") for line in lines]
     need(named == list(history.registers),
          "the lines aren't those of the registers, in the order of their first calls")
     for line in lines:
         name = line["register"]
-        with_name(name, check_line, Register(name, history.registers[name]), line, places)
+        with_name(name, check_line, Register(name, history.registers[name]), line, places, with_gaps)
     check_shown(lines)
-    check_summary(lines, summary)
+    check_summary(lines, summary, with_gaps)
 
 
 def check_shown(lines: Sequence[Row]) -> None:
@@ -39,7 +40,7 @@ def check_shown(lines: Sequence[Row]) -> None:
 # ---- The summary
 
 
-def check_summary(lines: Sequence[Row], summary: Row) -> None:
+def check_summary(lines: Sequence[Row], summary: Row, with_gaps: bool) -> None:
     due: Row = {"registers": len(lines), "reads": total(lines, "reads")}
     due["operations"] = due["reads"] + total(lines, "writes")
     due.update({key: total(lines, key) for key in COUNTS})
@@ -49,7 +50,7 @@ def check_summary(lines: Sequence[Row], summary: Row) -> None:
     unclean = sum("stale" not in line for line in lines)
     if unclean:
         due["unclean"] = unclean
-    elif due["atomic"] == "no":
+    elif due["atomic"] == "no" and with_gaps:
         due["gap"] = max(line["gap"]["events"] for line in lines if "gap" in line)
     for key, value in due.items():
         need(key in summary and same(summary[key], value), f"the summary's `{key}` is {value}")
@@ -73,7 +74,7 @@ def same(one: Any, other: Any) -> bool:
 # ---- The line of a register
 
 
-def check_line(register: Register, line: Row, places: Places) -> None:
+def check_line(register: Register, line: Row, places: Places, with_gaps: bool) -> None:
     counts = {"writes": len(register.writes), "reads": len(register.reads),
               "pending": sum(not a.completed for a in register.operations)}
     for key, count in counts.items():
@@ -83,6 +84,8 @@ def check_line(register: Register, line: Row, places: Places) -> None:
     due = {"register", *counts, *LEVELS, *due_by_sessions(line), *due_by_reads(register, line)}
     if "order" in line or "order_of" in line:
         due |= {"order", "order_of"}
+    if not with_gaps:
+        due.discard("gap")
     need(set(line) == due, f"its keys are not {', '.join(sorted(due))}")
     check_guarantees(register, line, places)
     if "gap" in line:
