@@ -22,8 +22,8 @@ tells level input outcome false status is e =
 pub returns-in-Ok-clause-answered : goal.returns-in-Ok-clause-answered
 returns-in-Ok-clause-answered c =
     let made = c.in-Ok.ensures.ok in
-    let text = subst (IsAnswerText c.args.settings.asked c.args.input.now) (sym c.as_slice.ensures.value) made.0
-    in
+    let asked = c.args.settings.asked in
+    let text = subst (IsAnswerText asked c.args.input.now) (sym c.as_slice.ensures.value) made.0 in
     inl (
       c.as_slice.result.now,
       c.status_of.result,
@@ -33,7 +33,8 @@ returns-in-Ok-clause-answered c =
 
 pub returns-in-Ok-clause-level : goal.returns-in-Ok-clause-level
 returns-in-Ok-clause-level c =
-    let put = subst (λ s. IsPut c.as_slice.result.now s c.args.out.now c.put_report.new.out c.put_report.result)
+    let said = c.put_report.result in
+    let put = subst (λ s. IsPut c.as_slice.result.now s c.args.out.now c.put_report.new.out said)
     c.status_of.ensures c.put_report.ensures in
-    tells c.args.settings.required c.args.input.now c.in-Ok.outcome _ c.put_report.result.status
+    tells c.args.settings.required c.args.input.now c.in-Ok.outcome _ said.status
     c.in-Ok.ensures.ok.1 (ap (λ (a : Answer). a.status) put.0)
