@@ -8,7 +8,7 @@ use crate::moment::Moment;
 use crate::op::{NEVER, Op, looks};
 use crate::reached::Reached;
 use crate::stages::in_stages;
-use crate::work::Limits;
+use crate::work::{Limits, Thrift};
 use std::alloc::{AllocError, Global};
 
 /// The most words of a set, so that 16,384 calls may wait to take effect at a time. More may be open: a look
@@ -42,7 +42,7 @@ pub fn go_forward(
         configurations: bounds.configurations,
         beam: bounds.configurations,
         is_guided: false,
-        is_thrifty: false,
+        thrift: Thrift::Little,
     };
     match words {
         1 => in_stages::<1>(alloc, ops, events, limits),

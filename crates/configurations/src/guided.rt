@@ -13,7 +13,7 @@ use crate::reply::{
     put_down,
 };
 use crate::table::Table;
-use crate::work::{Stop, Work};
+use crate::work::{Stop, Thrift, Work};
 use slot_sets::Slots;
 use std::alloc::{AllocError, Global};
 use std::mem;
@@ -302,8 +302,7 @@ fn pass<const W: usize>(
     Ok(())
 }
 
-/// The calls that never reply, but for those that may help: thriftily, those that write or look for the value
-/// that the call at a slot asks for; else those that give a value that a call finds which must take effect.
+/// The calls that never reply, but for those that may take effect at once; none if there is no reply.
 fn spared<const W: usize>(
     table: &Table<W>,
     outlook: &Outlook<W>,
@@ -316,8 +315,10 @@ fn spared<const W: usize>(
     let Some(reply) = reply else {
         return Ok(Slots::none());
     };
-    if spent.is_thrifty() {
-        return Ok(table.unanswered.minus(&table.alike(reply)));
+    match spent.thrift() {
+        Thrift::Most => return Ok(table.unanswered),
+        Thrift::Much => return Ok(table.unanswered.minus(&table.alike(reply))),
+        Thrift::Little => {}
     }
     let finders = finders(table, config);
     spent.spend(

@@ -11,7 +11,7 @@ use crate::moment::Moment;
 use crate::op::{NEVER, Op, looks};
 use crate::reached::Reached;
 use crate::run::run;
-use crate::work::Limits;
+use crate::work::{Limits, Thrift};
 use std::alloc::{AllocError, Global};
 
 /// How a stage goes, and what its answer may be used for.
@@ -22,8 +22,10 @@ enum Form {
     /// The same, but that configurations are let go that are unlikely to explain what comes: only a yes
     /// counts.
     Guided,
-    /// The same, and calls that never reply take effect only where nothing else explains a reply.
+    /// The same, and fewer calls that never reply take effect where something else explains a reply.
     Thrifty,
+    /// The same, and none of them does.
+    Thriftiest,
     /// The same as exact, but that a cas without a reply may take effect at any value: only a no counts.
     Eased,
     /// One order at a time: only a yes counts.
@@ -61,8 +63,10 @@ const ALL: u64 = 8;
 /// The stages if some changes have no reply: first those that are quick where they suffice. An exact one
 /// comes before the eased one, since the reply that the latter names need not be the first hopeless one. The
 /// last is as wide as the bounds allow.
-const STAGES: [Stage; 10] = [
+const STAGES: [Stage; 13] = [
     stage!(DepthFirst, 1, 1, 4),
+    stage!(Thriftiest, 8, MOST, 1),
+    stage!(Thriftiest, 32, MOST, 1),
     stage!(Thrifty, 8, MOST, 6),
     stage!(Thrifty, 32, MOST, 4),
     stage!(Exact, MOST, 256, 2),
@@ -70,6 +74,7 @@ const STAGES: [Stage; 10] = [
     stage!(Guided, 32, MOST, 2),
     stage!(Eased, MOST, 4_096, 5),
     stage!(Exact, MOST, 1_024, 4),
+    stage!(Thrifty, 128, MOST, 2),
     stage!(Guided, 128, MOST, 4),
     stage!(Exact, MOST, MOST, ALL),
 ];
@@ -189,19 +194,34 @@ fn run_stage<const W: usize>(
         steps: share,
         configurations: limits.configurations.min(stage.configurations),
         beam: stage.beam,
-        is_guided: stage.form == Form::Guided || stage.form == Form::Thrifty,
-        is_thrifty: stage.form == Form::Thrifty,
+        is_guided: is_guided(stage.form),
+        thrift: thrift_of(stage.form),
         ..*limits
     };
     let found = match stage.form {
         Form::Exact => run::<W>(alloc, ops, events, &mut own)?,
         Form::Guided => run::<W>(alloc, ops, events, &mut own)?,
         Form::Thrifty => run::<W>(alloc, ops, events, &mut own)?,
+        Form::Thriftiest => run::<W>(alloc, ops, events, &mut own)?,
         Form::Eased => eased_run::<W>(alloc, ops, events, &mut own)?,
         Form::DepthFirst => depth_first(alloc, ops, events, &mut own)?,
     };
     limits.steps = limits.steps.saturating_sub(share.saturating_sub(own.steps));
     Ok(found)
+}
+
+/// Whether configurations are let go that are unlikely to explain what comes.
+fn is_guided(form: Form) -> bool {
+    matches!(form, Form::Guided | Form::Thrifty | Form::Thriftiest)
+}
+
+/// How a stage of this form spares calls that never reply.
+fn thrift_of(form: Form) -> Thrift {
+    match form {
+        Form::Thriftiest => Thrift::Most,
+        Form::Thrifty => Thrift::Much,
+        Form::Guided | Form::Exact | Form::Eased | Form::DepthFirst => Thrift::Little,
+    }
 }
 
 /// How many of the steps that are left a stage may spend, so that some are left for the others.

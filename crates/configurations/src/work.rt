@@ -27,6 +27,18 @@ const LEFT_PER_BEAM: usize = 4;
 /// The place of no move.
 pub(crate) const NO_MOVE: u32 = 0xffff_ffff;
 
+/// Which calls that never reply take effect at once in a run whose yes alone counts, and not only where
+/// nothing else explains a reply.
+#[derive(Clone, Copy, PartialEq, Eq)]
+pub(crate) enum Thrift {
+    /// Those that give a value that a call finds which must take effect.
+    Little,
+    /// Those that write or look for the value that the call asks for which replies.
+    Much,
+    /// None.
+    Most,
+}
+
 /// How far a run may go, and how wide.
 #[derive(Clone, Copy)]
 pub(crate) struct Limits {
@@ -39,8 +51,8 @@ pub(crate) struct Limits {
     pub beam: usize,
     /// Whether a yes alone counts, so that those that are unlikely to explain what comes may be let go.
     pub is_guided: bool,
-    /// Whether calls that never reply then take effect only where nothing else explains a reply.
-    pub is_thrifty: bool,
+    /// How it then spares calls that never reply.
+    pub thrift: Thrift,
 }
 
 /// Why a search stopped before its end.
@@ -82,7 +94,7 @@ pub(crate) struct Work {
     configurations: usize,
     beam: usize,
     is_guided: bool,
-    is_thrifty: bool,
+    thrift: Thrift,
     moves: Vec<Move>,
     /// The first place of a move that was forgotten; each such place has that of the next.
     forgotten: u32,
@@ -100,7 +112,7 @@ impl Work {
             configurations: limits.configurations,
             beam: limits.beam,
             is_guided: limits.is_guided,
-            is_thrifty: limits.is_thrifty,
+            thrift: limits.thrift,
             moves: Vec::new(alloc),
             forgotten: NO_MOVE,
             room: LEAST_MOVES,
@@ -136,9 +148,9 @@ impl Work {
         self.is_guided
     }
 
-    /// Whether calls that never reply take effect only where nothing else explains a reply.
-    pub(crate) fn is_thrifty(&self) -> bool {
-        self.is_thrifty
+    /// How calls that never reply are spared.
+    pub(crate) fn thrift(&self) -> Thrift {
+        self.thrift
     }
 
     /// The steps that are left.

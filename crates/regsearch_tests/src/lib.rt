@@ -6,6 +6,8 @@
 #[cfg(test)]
 mod distinct;
 #[cfg(test)]
+mod order;
+#[cfg(test)]
 mod registers;
 #[cfg(test)]
 mod small;

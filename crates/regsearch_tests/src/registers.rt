@@ -28,7 +28,7 @@ pub(crate) fn cas(call: u32, reply: Option<u32>, from: Val, to: i64) -> Operatio
     operation(call, reply, Act::Cas { from, to })
 }
 
-fn miss(call: u32, reply: u32, from: Val) -> Operation {
+pub(crate) fn miss(call: u32, reply: u32, from: Val) -> Operation {
     operation(call, Some(reply), Act::Miss { from })
 }
 
