@@ -42,27 +42,25 @@ fn is_free(op: &Op, value: u32) -> bool {
     op.rank >= NEVER || (writes(op) && op.to == value)
 }
 
-/// A configuration with one more open call, at a slot that it lacks. A look
+/// One more call is open in a configuration, at a slot that it lacks. A look
 /// that the value suits takes effect at once.
 #[inline(always)]
-fn with_call<const W: usize>(table: &Table<W>, config: &Config<W>, slot: u32, op: &Op) -> Config<W>
+fn add_call<const W: usize>(table: &Table<W>, config: &mut Config<W>, slot: u32, op: &Op)
     requires table { IsTable table.now }
     requires slot { has table.now.used slot ≡ true }
     requires op { slice_get table.now.ops.items (call_at table.now slot) ≡ Some op.now }
-    ensures held { IsHeld (has table.now.used) config.now → IsHeld (has table.now.used) result }
-    ensures able { (es : List AMoment) → has config.now.owed slot ≡ false → has config.now.free slot ≡ false
-        → IsAble table.now config.now (ACall (call_at table.now slot) ∷ es) → IsAble table.now result es }
+    ensures held { IsHeld (has table.now.used) config.old → IsHeld (has table.now.used) config.new }
+    ensures able { (es : List AMoment) → has config.old.owed slot ≡ false → has config.old.free slot ≡ false
+        → IsAble table.now config.old (ACall (call_at table.now slot) ∷ es) → IsAble table.now config.new es }
 {
-    let mut config = *config;
     if is_content(op, config.value) {
-        return config;
+        return;
     }
     if is_free(op, config.value) {
         config.free.insert(slot);
     } else {
         config.owed.insert(slot);
     }
-    config
 }
 
 /// The step over a call, which has got a slot.
@@ -77,7 +75,7 @@ fn with_calls<const W: usize>(table: &Table<W>, configs: &mut Configs<W>, slot: 
         → IsAnyAble table.now configs.new es }
 {
     for at in 0..configs.list.len() {
-        configs.list[at] = with_call(table, &configs.list[at], slot, op);
+        add_call(table, &mut configs.list[at], slot, op);
     }
 }
 

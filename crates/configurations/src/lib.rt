@@ -11,7 +11,7 @@
 //! rules: a look takes effect as soon as the value suits it; a write that nobody sees stays out of sight; of
 //! calls that change alike the one that replies first goes first; and a configuration that another one stands
 //! for is dropped. Each rule is a function with a contract of its own, and could be left out: `stands_for`,
-//! `is_of_use` with `freeing`, `is_led` with `has_elder`, and the looks in `offspring` and `with_call`.
+//! `is_of_use` with `freeing`, `is_led` with `has_elder`, and the looks in `offspring` and `add_call`.
 //!
 //! Read it in this order: `op` and `moment`; `bounds`, `reached` and `work`; `table`, the open calls;
 //! `config`; `call` and `reply`, one event; `outlook` and `guided`, where a yes alone

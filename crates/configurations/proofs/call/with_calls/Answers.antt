@@ -9,19 +9,19 @@ loop-at-init g c = record { called = with_none c.args.table.now c.args.slot c.ar
 pub loop-at-preserved : goal.loop-at-preserved
 loop-at-preserved g c =
     let items = c.loop-at.configs.list.items in
-    let there : slice_get items c.loop-at.at ≡ Some c.index.result.now =
-    slice_get_read items (length items) c.loop-at.at c.index.result.now refl
+    let there : slice_get items c.loop-at.at ≡ Some c.index_mut.result.now =
+    slice_get_read items (length items) c.loop-at.at c.index_mut.result.now refl
     (omega (arith, c.loop-at.invariant.long, c.len-at-end.ensures, c.loop-at-test.true))
-    c.index.ensures in
+    c.index_mut.ensures.value in
     let before = sym (c.loop-at.invariant.called.rest c.loop-at.at (omega arith)) ∙ there in
-    let off = c.requires.off c.loop-at.at c.index.result.now before in
+    let off = c.requires.off c.loop-at.at c.index_mut.result.now before in
     record {
       called =
           with_more c.args.table.now c.args.slot c.args.configs.now c.loop-at.configs _ c.loop-at.at
-          c.index.result.now c.with_call.result refl there
-          (c.with_call.ensures.held (c.requires.held c.loop-at.at c.index.result.now before))
-          (λ es l. c.with_call.ensures.able es off.0 off.1 l) c.loop-at.invariant.called;
-      long = length-set items c.loop-at.at c.with_call.result ∙ c.loop-at.invariant.long;
+          c.index_mut.result.now c.add_call.new.config refl there
+          (c.add_call.ensures.held (c.requires.held c.loop-at.at c.index_mut.result.now before))
+          (λ es l. c.add_call.ensures.able es off.0 off.1 l) c.loop-at.invariant.called;
+      long = length-set items c.loop-at.at c.add_call.new.config ∙ c.loop-at.invariant.long;
     }
 
 pub returns : goal.returns

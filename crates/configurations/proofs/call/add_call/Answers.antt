@@ -1,7 +1,7 @@
 use Rattle.std.proofs.Common.{◌∙◌, refl, sym}
 use Rattle.std.proofs.lemmas.Option.{slice_get-get_or}
 use Rattle.configurations.proofs.Calling.{content_idle, free_able, idle_run, owed_able}
-use Rattle.configurations.proofs.call.with_call.Goals as goal
+use Rattle.configurations.proofs.call.add_call.Goals as goal
 
 pub returns-then-is_content-clause-able : goal.returns-then-is_content-clause-able
 returns-then-is_content-clause-able g c = λ es _ _ l.
