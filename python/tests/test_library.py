@@ -207,7 +207,7 @@ class Answers(unittest.TestCase):
                 want = run_checker(history, ["--require", level, *options], program=REGLEVEL)
                 self.assertEqual(told[:3], want[:3], path)
                 statuses.add(told.status)
-        self.assertEqual(statuses, {0, 1})
+        self.assertEqual(statuses, {0, 1, 2})
 
     @unittest.skipUnless(REGLEVEL, "no reglevel")
     def test_judge_levels(self) -> None:
