@@ -165,7 +165,6 @@ class Picture {
     this.svg.setAttribute('role', 'group');
     this.things.forEach((thing, index) => {
       thing.setAttribute('role', 'button');
-      thing.setAttribute('aria-label', thing.querySelector('title').textContent);
       thing.setAttribute('tabindex', index === 0 ? '0' : '-1');
     });
   }
