@@ -197,11 +197,11 @@ class Levels(unittest.TestCase):
     def test_meanings(self) -> None:
         """Of what is broken only the weakest: the rest follows."""
         for name, said in [
-                ("follower_behind", "Kept: each session only moves forward. Broken: no read misses a write that "
-                                    "had ended."),
-                ("read_goes_back", "Kept: no session misses its own write. Broken: no read misses a write that "
-                                   "had ended; no session goes back to an older value; all agree on one order "
-                                   "of the writes."),
+                ("follower_behind", "Kept: each session only moves forward. Broken: no read misses a write "
+                                    "that had ended."),
+                ("read_goes_back", "Kept: no session misses its own write. Broken: no read misses a write "
+                                   "that had ended; no session goes back to an older value; all agree on one "
+                                   "order of the writes."),
                 ("new_old_across_sessions", "Kept: no read misses a write that had ended; each session only "
                                             "moves forward. Broken: each read gives the latest write.")]:
             self.assertIn(said, words_of(levels_page(of_example(name), "h")))
