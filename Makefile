@@ -263,7 +263,7 @@ arm64-test: $(PROGRAMS:%=bin/%) $(PROGRAMS:%=bin/arm64/%) bin/arm64/libregcheck.
 	tests/arm64
 
 # Status 5 is that of a store whose server isn't here.
-stores: $(if $(REGCHECK),,bin/regcheck)
+stores: $(if $(REGCHECK),,bin/regcheck) $(if $(REGLEVEL),,bin/reglevel)
 	@right=0; for store in redis postgresql etcd; do \
 	    examples/stores/$$store.py $(STORES); status=$$?; test $$status = 0 -o $$status = 5 || right=1; \
 	done; exit $$right

@@ -27,6 +27,7 @@ ROOT = pathlib.Path(__file__).resolve().parents[2]
 if (ROOT / "python/regkit").is_dir():  # else regkit is installed, or named by PYTHONPATH
     sys.path.insert(0, str(ROOT / "python"))
 
+from regkit.checker.programs import LEVEL, find_program  # noqa: E402
 from regkit.record import Client, Recorder  # noqa: E402
 
 KEYS = ["x", "y"]
@@ -380,7 +381,7 @@ def regkit(*words: str, output: Optional[pathlib.Path] = None) -> int:
 
 
 def run_scenario(scenario: Scenario, base: pathlib.Path, seconds: float) -> bool:
-    """Runs a scenario, and leaves its history, explanation and picture. Whether it came out as expected."""
+    """Runs a scenario, and leaves its history, explanation and pages. Whether it came out as expected."""
     print(f"\n{base.name}: {scenario.about}", flush=True)
     history = str(base.with_suffix(".jsonl"))
     with Recorder(history, clock=time.monotonic_ns) as recorder, Lab() as lab:
@@ -388,6 +389,8 @@ def run_scenario(scenario: Scenario, base: pathlib.Path, seconds: float) -> bool
     given = regkit("check", "--most", "1", "--least-overlaps", "1", history)
     regkit("explain", history, output=base.with_suffix(".txt"))
     regkit("draw", history, "-o", str(base.with_suffix(".html")))
+    if given == NOT_LINEARIZABLE and find_program(LEVEL):
+        regkit("levels", "--page", str(base.with_suffix(".levels.html")), history)
     if given != scenario.expected:
         print(f"{base.name}: regkit check ended with {given}, and not {scenario.expected}", file=sys.stderr)
     return given == scenario.expected

@@ -159,7 +159,7 @@ class Levels(unittest.TestCase):
                          {"linearizable (atomic)", "regular"})
         self.assertIn("read your writes (own_writes)", boxes)
         self.assertEqual(boxes["regular"][1], "not kept by 1 of 2 registers")
-        self.assertEqual(boxes["session"][1], "kept by all 2 registers")
+        self.assertEqual(boxes["session"][1], "kept by both registers")
         page = levels_page(of_example("lost_write"), "h")
         self.assertIn(">no read misses a write that had ended</text>", page)
 
@@ -193,6 +193,18 @@ class Levels(unittest.TestCase):
 
     def test_one_register_needs_no_table(self) -> None:
         self.assertNotIn("<table", levels_page(of_example("read_goes_back"), "h"))
+
+    def test_meanings(self) -> None:
+        """Of what is broken only the weakest: the rest follows."""
+        for name, said in [
+                ("follower_behind", "Kept: each session only moves forward. Broken: no read misses a write "
+                                    "that had ended."),
+                ("read_goes_back", "Kept: no session misses its own write. Broken: no read misses a write "
+                                   "that had ended; no session goes back to an older value; all agree on one "
+                                   "order of the writes."),
+                ("new_old_across_sessions", "Kept: no read misses a write that had ended; each session only "
+                                            "moves forward. Broken: each read gives the latest write.")]:
+            self.assertIn(said, words_of(levels_page(of_example(name), "h")))
 
     def test_titles(self) -> None:
         for name, title in [("readers_disagree", "Keeps regular and read your writes"),

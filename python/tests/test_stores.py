@@ -8,9 +8,9 @@ import sys
 import tempfile
 import time
 import unittest
-from typing import List
+from typing import List, Sequence
 
-from regkit.checker.programs import find_checker
+from regkit.checker.programs import LEVEL, find_checker, find_program
 
 STORES = pathlib.Path(__file__).resolve().parents[2] / "examples/stores"
 NOT_HERE, INTERRUPTED = 5, 130
@@ -61,14 +61,15 @@ class Stores(unittest.TestCase):
                 continue
         return [log for log in logs if log.startswith(str(self.temporary))]
 
-    def comes_out(self, store: str, *runs: str) -> None:
+    def comes_out(self, store: str, linearizable: Sequence[str], others: Sequence[str]) -> None:
         """Each run of a store is judged as the script says, which ends with 0 then."""
         script = self.start(store, "--seconds", "1")
         told = self.end(script)
         self.skip_if_not_here(script, told)
         self.assertEqual(script.returncode, 0, told)
-        self.assertEqual({path.name for path in self.pages.iterdir()},
-                         {f"{store}-{run}.{end}" for run in runs for end in ("jsonl", "txt", "html")})
+        pages = {f"{store}-{run}.levels.html" for run in others if find_program(LEVEL)}
+        self.assertEqual({path.name for path in self.pages.iterdir()}, pages | {
+            f"{store}-{run}.{end}" for run in (*linearizable, *others) for end in ("jsonl", "txt", "html")})
 
     def skip_if_not_here(self, script: "subprocess.Popen[str]", told: str) -> None:
         if script.returncode == NOT_HERE:
@@ -76,13 +77,13 @@ class Stores(unittest.TestCase):
             self.skipTest(told.strip())
 
     def test_redis(self) -> None:
-        self.comes_out("redis", "one-server", "replica", "sticky", "roaming", "failover")
+        self.comes_out("redis", ["one-server"], ["replica", "sticky", "roaming", "failover"])
 
     def test_postgresql(self) -> None:
-        self.comes_out("postgresql", "statements", "repeatable-read", "stop", "stop-without-sync")
+        self.comes_out("postgresql", ["statements", "stop"], ["repeatable-read", "stop-without-sync"])
 
     def test_etcd(self) -> None:
-        self.comes_out("etcd", "linearizable", "serializable", "roaming")
+        self.comes_out("etcd", ["linearizable"], ["serializable", "roaming"])
 
     def test_a_server_that_is_not_installed_is_named(self) -> None:
         script = self.start("redis", PATH="/nowhere")

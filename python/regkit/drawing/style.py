@@ -164,7 +164,8 @@ svg text.level-note{font-size:10.5px;fill:var(--dim)}
 
 WALK = """
 :root{scroll-padding-bottom:240px}
-.walk{position:sticky;bottom:0;margin:24px -12px -40px;padding:8px 12px 10px;background:var(--paper);
+.walking .walk{position:sticky;bottom:0}
+.walk{margin:24px -12px -40px;padding:8px 12px 10px;background:var(--paper);
   border-top:1px solid var(--edge);font-size:13px}
 .walk .tools,.walk .group{display:flex;flex-wrap:wrap;align-items:center;gap:6px 8px}
 .walk .tools{justify-content:space-between;column-gap:24px}
@@ -192,7 +193,7 @@ WALK = """
 .told-of dd button{border:0;padding:0;margin-right:12px;background:none;text-decoration:underline;
   text-align:left}
 .chosen-name{font-weight:600}
-figure.current{box-shadow:-4px 0 0 -1px var(--edge)}
+.walking figure.current{box-shadow:-4px 0 0 -1px var(--edge)}
 svg [role=button]{cursor:pointer}
 svg.stretched{cursor:grab;touch-action:pan-y}
 .meanwhile{fill:var(--ink);opacity:.09}
@@ -210,7 +211,7 @@ body{padding:0;max-width:none;print-color-adjust:exact;-webkit-print-color-adjus
 figure{break-inside:avoid;overflow:visible}
 h2,h3,ol.reasons,.legend{break-after:avoid}
 .walk{display:none}
-figure.current{box-shadow:none}
+.walking figure.current{box-shadow:none}
 """
 
 NARROW = "body{padding:20px 16px} figure>svg{max-width:none}"

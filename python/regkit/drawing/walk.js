@@ -165,7 +165,6 @@ class Picture {
     this.svg.setAttribute('role', 'group');
     this.things.forEach((thing, index) => {
       thing.setAttribute('role', 'button');
-      thing.setAttribute('aria-label', thing.querySelector('title').textContent);
       thing.setAttribute('tabindex', index === 0 ? '0' : '-1');
     });
   }
@@ -354,7 +353,7 @@ function stepOf({steps: all, first, last, of}, steps) {
 
 // ---- What the reader does with all of this
 
-/** The bar at the foot of the window, and what its parts do to the pictures. */
+/** The bar with all tools, and what they do to the pictures. */
 class Walk {
   constructor(pictures) {
     this.pictures = pictures;
@@ -374,6 +373,13 @@ class Walk {
     bar.setAttribute('aria-label', 'Walk through the pictures');
     bar.addEventListener('keydown', event => { if (event.key === 'Escape') this.forget(); });
     document.body.append(bar);
+    ['scroll', 'pointerdown', 'keydown'].forEach(
+      name => addEventListener(name, () => this.begin(), {once: true, passive: true}));
+  }
+
+  /** Keeps the bar in sight. Until the reader does something it stands at the end, and covers nothing. */
+  begin() {
+    document.body.classList.add('walking');
   }
 
   searchTools() {
@@ -513,6 +519,7 @@ class Walk {
   // -- One thing
 
   choose(picture, thing) {
+    this.begin();
     this.forget();
     this.turnTo(picture);
     const operation = operationOf(thing);

@@ -19,8 +19,9 @@ MEANINGS = {
     "session": "each session only moves forward", "own_writes": "no session misses its own write",
     "monotonic": "no session goes back to an older value",
     "sequential": "all agree on one order of the writes"}
-CAPTION = ("Each level implies those that its arrows lead to. The name in brackets is the one that --require "
-           "takes.")
+CAPTION = ("Kept means that this run shows nothing against it; another run may. Each level implies those "
+           "that its arrows lead to. The name in brackets is the one that --require takes. A register is a "
+           "key. A session is a process of the history: one client, which waits for each reply.")
 
 
 def corner(level: str) -> tuple[float, float]:
@@ -34,7 +35,8 @@ def how_many(levels: Levels, level: str) -> str:
     if len(levels.rows) <= 1:
         return "not kept" if lacking else "kept"
     if not lacking:
-        return f"kept by all {len(levels.rows):,} registers"
+        all_of_them = "both" if len(levels.rows) == 2 else f"all {len(levels.rows):,}"
+        return f"kept by {all_of_them} registers"
     return f"not kept by {lacking:,} of {len(levels.rows):,} registers"
 
 

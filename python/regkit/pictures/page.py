@@ -1,7 +1,7 @@
 """The page: what held in words, the ladder, how old stale reads were and when they came, and the faults."""
 from typing import Sequence
 
-from regkit.checker.levels import kept, strongest
+from regkit.checker.levels import LEVELS, WEAKER, kept, strongest
 from regkit.checker.report import Row
 from regkit.drawing.legend import legend
 from regkit.drawing.page import CROSS, STRIPES, TICK, document, listed, verdict_icon
@@ -14,7 +14,7 @@ from regkit.levels.subject import Subject
 from regkit.pictures.bursts import bursts_of
 from regkit.pictures.faults import Section, section
 from regkit.pictures.histogram import histogram
-from regkit.pictures.ladder import ladder
+from regkit.pictures.ladder import MEANINGS, ladder
 from regkit.pictures.registers import table, worst_first
 from regkit.pictures.timeline import timeline
 from regkit.words.levels import in_words
@@ -41,11 +41,23 @@ def top(subject: Subject, title: str) -> str:
     return tag("h1", verdict_icon(mark) + shown, class_=f"verdict {kind}")
 
 
+def meaning(subject: Subject) -> str:
+    """What the run kept and what it broke, for readers who don't know the names of the levels. A level that
+    is broken since a weaker one is isn't named."""
+    held = kept(subject.levels.summary)
+    good = [MEANINGS[level] for level in strongest(held)]
+    weakest = [level for level in LEVELS if level not in held and set(WEAKER.get(level, ())) <= set(held)]
+    bad = [MEANINGS[level] for level in weakest]
+    said = [f"Kept: {'; '.join(good)}."] * bool(good) + [f"Broken: {'; '.join(bad)}."] * bool(bad)
+    return " ".join(said)
+
+
 def told(subject: Subject, more: Sequence[str]) -> str:
-    """What `regkit levels` says, but for what the title has. A line that is indented says more of the one before it."""
+    """What `regkit levels` says, but for what the title has. A line that is indented says more of the one
+    before it."""
     summary = subject.levels.summary
     first = below_title(kept(summary), summary["operations"], summary["registers"])
-    items = [tag("p", words(f"{capital(first)}."), class_="sub")]
+    items = [tag("p", words(f"{capital(first)}."), class_="sub"), tag("p", words(meaning(subject)))]
     for line in [*account(subject), *(f"  {each}" for each in more)]:
         said = with_code(capital(line.strip()) + ".")
         items.append(tag("p", said, class_="more" if line.startswith("   ") else ""))
