@@ -60,6 +60,9 @@ const MOST: usize = usize::MAX;
 /// All that is left.
 const ALL: u64 = 8;
 
+/// The thriftiest stages get one of so many parts of their share: what they find takes them few steps.
+const PART_OF_THRIFTIEST: u64 = 4;
+
 /// The stages if some changes have no reply: first those that are quick where they suffice. An exact one
 /// comes before the eased one, since the reply that the latter names need not be the first hopeless one. The
 /// last is as wide as the bounds allow.
@@ -227,8 +230,12 @@ fn thrift_of(form: Form) -> Thrift {
 /// How many of the steps that are left a stage may spend, so that some are left for the others.
 fn share_of(stage: Stage, steps: u64) -> u64 {
     if stage.eighths == ALL {
-        steps
+        return steps;
+    }
+    let share = (steps / ALL).saturating_mul(stage.eighths);
+    if stage.form == Form::Thriftiest {
+        share / PART_OF_THRIFTIEST
     } else {
-        (steps / ALL).saturating_mul(stage.eighths)
+        share
     }
 }
