@@ -72,7 +72,7 @@ func asked(
 	length int, report func([]byte, *C.regcheck_answer), refusal func([]byte) C.size_t,
 ) (Verdict, []byte, error) {
 	var answer C.regcheck_answer
-	out := make([]byte, length+1024) // enough unless registers have one operation or two
+	out := make([]byte, length+1024) // enough unless registers have few operations
 	report(out, &answer)
 	if answer.status == C.REGCHECK_TOO_SMALL {
 		out = make([]byte, answer.length)

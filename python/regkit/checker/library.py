@@ -107,7 +107,7 @@ class Library:
 
     @staticmethod
     def _answered(function: Callable[..., None], history: bytes, *numbers: int) -> tuple[_Answer, bytes]:
-        room = len(history) + 1024  # enough unless registers have one operation or two
+        room = len(history) + 1024  # enough unless registers have few operations
         while True:
             out, answer = ctypes.create_string_buffer(room), _Answer()
             function(history, len(history), *numbers, out, room, ctypes.byref(answer))

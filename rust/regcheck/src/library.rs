@@ -111,7 +111,7 @@ fn answer(
     refusal: impl Fn(&mut [u8]) -> usize,
 ) -> Result<Answer, Error> {
     let mut told = Told::default();
-    // Enough unless registers have one operation or two.
+    // Enough unless registers have few operations.
     let mut out = vec![0; length + 1024];
     report(&mut out, &mut told);
     if told.status == TOO_SMALL {
