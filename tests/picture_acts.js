@@ -109,7 +109,7 @@ const acts = {
   zoom() {
     const svg = one('svg[data-from]:has(.bar)');
     const drawn = () => JSON.stringify([...svg.querySelectorAll('.edge, .arrow, .axis')].map(
-      path => path.getAttribute('d')));
+      path => path.getAttribute('d')).sort());
     const before = drawn();
     const isWide = middle(svg).width > 1000; // a narrow picture grows first
     const bar = svg.querySelectorAll('.bar[data-line]')[2];

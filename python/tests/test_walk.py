@@ -102,7 +102,8 @@ class Without(unittest.TestCase):
             for _, attributes in found:
                 self.assertEqual({"hidden", "tabindex", "style"} & set(attributes), set())
             classes = {name for _, attributes in found for name in (attributes.get("class") or "").split()}
-            made = {"walk", "walking", "waits", "now", "found", "chosen", "stepping", "searching", "meanwhile"}
+            made = {"walk", "walking", "waits", "now", "found", "chosen", "stepping", "searching",
+                    "meanwhile"}
             self.assertEqual(classes & made, set())
 
     def test_the_picture_is_an_image_with_a_label(self) -> None:
