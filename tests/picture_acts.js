@@ -82,6 +82,7 @@ const acts = {
     check(output().startsWith('All '), output());
     type(slider, Math.ceil(most / 3));
     check(all('.now').length >= 1 && output().includes('the register holds'), output());
+    one('.now').scrollIntoView({block: 'center'});
   },
 
   /** A search marks all that it finds, and goes through it. */
