@@ -82,6 +82,7 @@ const acts = {
     check(output().startsWith('All '), output());
     type(slider, Math.ceil(most / 3));
     check(all('.now').length >= 1 && output().includes('the register holds'), output());
+    one('.now').scrollIntoView({block: 'center'});
   },
 
   /** A search marks all that it finds, and goes through it. */
@@ -109,7 +110,7 @@ const acts = {
   zoom() {
     const svg = one('svg[data-from]:has(.bar)');
     const drawn = () => JSON.stringify([...svg.querySelectorAll('.edge, .arrow, .axis')].map(
-      path => path.getAttribute('d')));
+      path => path.getAttribute('d')).sort());
     const before = drawn();
     const isWide = middle(svg).width > 1000; // a narrow picture grows first
     const bar = svg.querySelectorAll('.bar[data-line]')[2];

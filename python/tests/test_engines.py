@@ -1,4 +1,5 @@
 """Tests of engines/: what a run of a part leaves; each engine runs all parts, and then again what failed."""
+import json
 import os
 import pathlib
 import shutil
@@ -7,8 +8,8 @@ import tempfile
 import unittest
 from typing import Dict, List, Sequence
 
-from regkit.checker.programs import SEARCH, find_checker, find_program
-from regkit.commands import join
+from regkit.checker.programs import LEVEL, SEARCH, find_checker, find_program, run_levels
+from regkit.commands import join, split
 from regkit.parts.folder import file_of
 from tests.split_support import STAND_IN_SBATCH, Ran, python_with_dask, run_command, search, whole
 from tests.test_split import Folder, call, cas, end, has_checker, history_of
@@ -202,6 +203,34 @@ class SearchEngines(Engines):
         done = self.run_engine(*words, **more)
         self.assertEqual((0, []), (done.returncode, self.runs()))
         self.must_run_unknown_parts_again(*words, **more)
+
+
+@unittest.skipUnless(find_program(LEVEL), "reglevel isn't built")
+class Levels(Folder):
+    """Parts for reglevel, as `split --levels` makes them."""
+
+    def test_check_part_and_join(self) -> None:
+        history = b"".join([history_of(call(1, "x", 5), end(1), call(2, "x"), end(2, value=None)),
+                            history_of(call(1, "y", 5), end(1), call(2, "y"), end(2, value=5))])
+        pathlib.Path(self.path).write_bytes(history)
+        words = [self.path, self.directory, "--parts", "2", "--levels"]
+        self.assertEqual(run_command(split, *words).status, 0)
+        program = str(find_program(LEVEL))
+        for part in range(2):
+            path = str(file_of(self.directory, part, "jsonl"))
+            ran = subprocess.run([str(ENGINES / "check_part"), path], env={**os.environ, "REGLEVEL": program},
+                                 check=False, capture_output=True)
+            self.assertEqual(ran.returncode, 0, ran.stderr)
+        bounds = subprocess.run([str(ENGINES / "unanswered"), self.directory, "--steps", "7"], check=False,
+                                capture_output=True, text=True)
+        self.assertEqual(bounds.returncode, 3)
+        self.assertIn("are for reglevel, which has no bounds: leave out --steps", bounds.stderr)
+        *rows, summary = map(json.loads, run_levels(history).report.splitlines())
+        joined = run_command(join, self.directory)
+        self.assertEqual((joined.status, joined.words), (1, ""))
+        for row in (*rows, summary):
+            row.pop("gap", None)
+        self.assertEqual([json.loads(line) for line in joined.report.splitlines()], [*rows, summary])
 
 
 if __name__ == "__main__":

@@ -50,6 +50,11 @@ def report_of(path: pathlib.Path) -> List[Row]:
     return [json.loads(line) for line in path.with_suffix(".report").read_bytes().splitlines()]
 
 
+def later(lines: int) -> Callable[[int], int]:
+    """The numbers of lines behind some more. Line 0 stays what it is."""
+    return lambda line: line + lines if line else 0
+
+
 def all_in_one() -> Tuple[bytes, List[Row]]:
     """All examples one after another, with registers of their own, and the lines of these registers."""
     history, rows, first = [], [], 0
@@ -61,7 +66,7 @@ def all_in_one() -> Tuple[bytes, List[Row]]:
                 line["register"] = f"{path.stem}/{line['register']}"
         history += lines
         for row in report_of(path)[:-1]:
-            moved: Dict[str, Any] = renumbered(row, lambda line, first=first: line + first if line else 0)
+            moved: Dict[str, Any] = renumbered(row, later(first))
             rows.append({**moved, "register": f"{path.stem}/{row['register']}"})
         first += len(lines)
     return b"".join(map(line_of, history)), rows
@@ -138,8 +143,8 @@ class Levels(HandMade):
         row = {"atomic": "no", "monotonic": "no", "monotonic_fault": fault, "own_writes": "no",
                "own_writes_fault": fault, "pending": 0, "reads": 1, "register": "x", "regular": "no",
                "sequential": "no", "sequential_fault": fault, "session": "no", "unwritten": 1, "writes": 0}
-        summary = {**NOTHING, **dict.fromkeys(("atomic", "regular", "session", "sequential", *HALVES), "no"),
-                   "operations": 1, "reads": 1, "registers": 1, "unclean": 1}
+        summary: Row = {**NOTHING, **{level: "no" for level in LEVELS}, "operations": 1, "reads": 1,
+                        "registers": 1, "unclean": 1}
         self.split(b"".join(map(line_of, events)), [], 2, MAP)
         self.answer(0, [row, summary])
         self.assertEqual(self.join(), (1, line_of(row) + line_of(summary), ""))
@@ -172,7 +177,7 @@ class Levels(HandMade):
         self.manifest(1, [])
         for program, words in [(CHECK, "a report of regcheck has no levels"),
                                (SEARCH, "a report of regsearch has no levels")]:
-            order = {"order": []} if program == CHECK else {}
+            order: Row = {"order": []} if program == CHECK else {}
             self.part(0, "0", [{"atomic": "yes", "operations": 0, "registers": 0, **order}])
             ran = self.join("--require", "session")
             self.assertEqual((ran.status, ran.report), (3, b""), program)

@@ -162,6 +162,9 @@ class Levels(unittest.TestCase):
         self.assertEqual(boxes["session"][1], "kept by both registers")
         page = levels_page(of_example("lost_write"), "h")
         self.assertIn(">no read misses a write that had ended</text>", page)
+        events = [line for name in "ab" for line in (write(1, 1, name), reply(1))]
+        boxes = self.boxes(levels_page(subject_of(events, row_of([], "a"), row_of([], "b")), "h"))
+        self.assertEqual(boxes["session"], ("lacking", "kept by no register"))
 
     def test_the_registers(self) -> None:
         """The worst comes first, and one that kept all isn't there."""

@@ -18,9 +18,9 @@ from regkit.drawing.walk import SCRIPT, Order, order_known, source_of, values_of
 from regkit.history.operations import read_history
 from regkit.pictures.page import levels_page
 
-from .events import Line, fail, gave, read, reply, text, write
+from .events import Line, fail, gave, read, reply, stale, text, write
 from .test_draw import DANGEROUS, HOSTILE, INVERSION, Elements, data, report, zones
-from .test_levels_page import of_example, row_of, stale, subject_of
+from .test_levels_page import of_example, row_of, subject_of
 
 PYTHON = pathlib.Path(__file__).resolve().parent.parent
 SEARCHES = PYTHON.parent / "examples/search"

@@ -36,7 +36,8 @@ class Guess(NamedTuple):
 TABLE = [  # the first that fits
     Guess("replicas that are written synchronously, and read before the write has ended",
           lambda mix: "regular" in mix.kept and mix.inverted > 0),
-    Guess("replicas that are behind, where each session sees its own writes and never goes back",
+    Guess("replicas that are behind, where each session sees its own writes and never goes back; or, if the "
+          "stale reads came in one burst, a failover or a restart that lost writes",
           lambda mix: "session" in mix.kept),
     Guess("several leaders, or an order of the writes by clocks, that all sessions see",
           lambda mix: list(mix.kept) == ["sequential"]),

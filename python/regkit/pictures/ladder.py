@@ -37,6 +37,8 @@ def how_many(levels: Levels, level: str) -> str:
     if not lacking:
         all_of_them = "both" if len(levels.rows) == 2 else f"all {len(levels.rows):,}"
         return f"kept by {all_of_them} registers"
+    if lacking == len(levels.rows):
+        return "kept by no register"
     return f"not kept by {lacking:,} of {len(levels.rows):,} registers"
 
 
