@@ -32,6 +32,7 @@ fn expect(words: &str, part: &str) {
 
 /// The verdicts are the same with the library and without. Here is no regkit.
 fn each_level(folder: &Path) {
+    let regkit = env::var_os("REGKIT");
     env::set_var("REGKIT", "/nowhere/regkit");
     let recorder = goes_back(folder);
     recorder.assert_level("level", Level::OwnWrites);
@@ -47,7 +48,10 @@ fn each_level(folder: &Path) {
         expect(&words, &line);
         expect(&words, "/nowhere/regkit could not be run");
     }
-    env::remove_var("REGKIT");
+    match regkit {
+        Some(path) => env::set_var("REGKIT", path),
+        None => env::remove_var("REGKIT"),
+    }
     let report = fs::read_to_string(folder.join("level.report")).unwrap();
     expect(&report, "\"session\":\"no\"");
     expect(&report, "\"stale_reads\":[[5,1]]");
