@@ -27,7 +27,6 @@ ROOT = pathlib.Path(__file__).resolve().parents[2]
 if (ROOT / "python/regkit").is_dir():  # else regkit is installed, or named by PYTHONPATH
     sys.path.insert(0, str(ROOT / "python"))
 
-from regkit.checker.programs import LEVEL, find_program  # noqa: E402
 from regkit.record import Client, Recorder  # noqa: E402
 
 KEYS = ["x", "y"]
@@ -389,7 +388,7 @@ def run_scenario(scenario: Scenario, base: pathlib.Path, seconds: float) -> bool
     given = regkit("check", "--most", "1", "--least-overlaps", "1", history)
     regkit("explain", history, output=base.with_suffix(".txt"))
     regkit("draw", history, "-o", str(base.with_suffix(".html")))
-    if given == NOT_LINEARIZABLE and find_program(LEVEL):
+    if given == NOT_LINEARIZABLE:
         regkit("levels", "--page", str(base.with_suffix(".levels.html")), history)
     if given != scenario.expected:
         print(f"{base.name}: regkit check ended with {given}, and not {scenario.expected}", file=sys.stderr)

@@ -8,7 +8,7 @@ import tempfile
 import unittest
 from typing import Dict, List, Sequence
 
-from regkit.checker.programs import LEVEL, SEARCH, find_checker, find_program, run_levels
+from regkit.checker.programs import LEVEL, SEARCH, find_checker, find_program, judge_levels
 from regkit.commands import join, split
 from regkit.parts.folder import file_of
 from tests.split_support import STAND_IN_SBATCH, Ran, python_with_dask, run_command, search, whole
@@ -225,7 +225,7 @@ class Levels(Folder):
                                 capture_output=True, text=True)
         self.assertEqual(bounds.returncode, 3)
         self.assertIn("are for reglevel, which has no bounds: leave out --steps", bounds.stderr)
-        *rows, summary = map(json.loads, run_levels(history).report.splitlines())
+        *rows, summary = map(json.loads, judge_levels(history).report.splitlines())
         joined = run_command(join, self.directory)
         self.assertEqual((joined.status, joined.words), (1, ""))
         for row in (*rows, summary):
