@@ -231,6 +231,14 @@ fn answered(alloc: Global, call: Call, history: &str, out: &mut [u8]) -> Answer 
     answer
 }
 
+/// Whether a place begins with this text, and is as it was behind it.
+fn holds(out: &[u8], text: &str) -> bool {
+    let text = text.as_bytes();
+    text.len() <= out.len()
+        && &out[..text.len()] == text
+        && out[text.len()..].iter().all(|byte| *byte == BEFORE)
+}
+
 // Each call says what is expected, and puts the report and nothing else into the place.
 #[test]
 fn answers(rt: HostRuntime) -> Result<(), Fail> {
@@ -245,12 +253,7 @@ fn answers(rt: HostRuntime) -> Result<(), Fail> {
             length: report.len() as u64,
         };
         assert_eq!(rt; answer, want, "{history}");
-        assert!(rt; report.len() < ROOM);
-        assert_eq!(rt; &out[..report.len()], report.as_bytes(), "{history}");
-        assert!(rt;
-            out[report.len()..].iter().all(|byte| *byte == BEFORE),
-            "{history}"
-        );
+        assert!(rt; holds(&out, report), "{history}");
     }
     Ok(())
 }
@@ -267,23 +270,21 @@ const REPORTS: [(Call, &str, &str); 3] = [
 fn rooms(rt: HostRuntime) -> Result<(), Fail> {
     for (call, history, report) in REPORTS {
         let length = report.len();
-        assert!(rt; 0 < length && length < ROOM);
+        assert!(rt; 0 < length && length <= ROOM);
         for (room, status, put) in [
-            (length, YES, length),
-            (length - 1, TOO_SMALL, 0),
-            (0, TOO_SMALL, 0),
+            (length, YES, report),
+            (length - 1, TOO_SMALL, ""),
+            (0, TOO_SMALL, ""),
         ] {
             let mut out = [BEFORE; ROOM];
-            assert!(rt; room < ROOM && put < ROOM);
+            assert!(rt; room <= ROOM);
             let answer = answered(rt.alloc(), call, history, &mut out[..room]);
             assert_eq!(rt;
                 (answer.status, answer.length),
                 (status, length as u64),
                 "{room}"
             );
-            assert!(rt; put <= length);
-            assert_eq!(rt; &out[..put], &report.as_bytes()[..put], "{room}");
-            assert!(rt; out[put..].iter().all(|byte| *byte == BEFORE), "{room}");
+            assert!(rt; holds(&out, put), "{room}");
         }
     }
     Ok(())
@@ -302,7 +303,7 @@ const LINES: [(&str, usize, usize, &str); 4] = [
 #[test]
 fn refusals(rt: HostRuntime) -> Result<(), Fail> {
     for (history, room, length, line) in LINES {
-        assert!(rt; room <= ROOM && line.len() < ROOM);
+        assert!(rt; room <= ROOM);
         for searching in [false, true] {
             let mut out = [BEFORE; ROOM];
             let place = &mut out[..room];
@@ -312,11 +313,7 @@ fn refusals(rt: HostRuntime) -> Result<(), Fail> {
                 regcheck_refusal(rt.alloc(), history.as_bytes(), place)
             };
             assert_eq!(rt; said, length, "{room}");
-            assert_eq!(rt; &out[..line.len()], line.as_bytes(), "{room}");
-            assert!(rt;
-                out[line.len()..].iter().all(|byte| *byte == BEFORE),
-                "{room}"
-            );
+            assert!(rt; holds(&out, line), "{room}");
         }
     }
     Ok(())
