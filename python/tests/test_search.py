@@ -441,7 +441,8 @@ class Drawings(Files):
     def test_a_cas_that_missed_is_of_no_value(self) -> None:
         """It is drawn in no value's colour, and the reply that no order gives in that of a stale read."""
         page = self.drawn([*FINE, cas(3, 7, 5), took(3, False), cas(2, 6, 5), took(2, True)])
-        found = re.findall(r'<g class="bar ([a-z ]+)"[^>]*>(?:(?!<g class="bar ).)*?<title>(.*?) by process', page)
+        found = re.findall(r'<g class="bar ([a-z ]+)"[^>]*>(?:(?!<g class="bar ).)*?<title>(.*?) by process',
+                           page)
         kinds = {words: kind for kind, words in found}
         self.assertEqual(kinds["The cas from 7 to 5 that missed,"], "write")
         self.assertEqual(kinds["The cas from 6 to 5 that took place,"], "write stale strong")
