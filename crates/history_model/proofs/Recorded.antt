@@ -368,7 +368,7 @@ module _ (es : List LineEvent) (acc : AreAccepted es) where
             ]
       ]
 
-  turns : (a b : Operation) (p : ℕ) → Known (events_after [] es) a → Known (events_after [] es) b
+  pub turns : (a b : Operation) (p : ℕ) → Known (events_after [] es) a → Known (events_after [] es) b
       → a.process ≡ Some p → b.process ≡ Some p → (a ≡ b) ⊎ (Precedes a b ⊎ Precedes b a)
   turns a b p (inl (j, e)) k q s =
       let n = ap (λ (o : Operation). o.process) e in absurd (let z : None ≡ Some p = sym n ∙ q in cc (z))
@@ -382,17 +382,20 @@ module _ (es : List LineEvent) (acc : AreAccepted es) where
     ])
   ]
 
+  pub known-whole : (m : ℕ) (a : Operation) → In a (initial_writes m ++ calls (events_after [] es))
+      → Known (events_after [] es) a
+  known-whole m a i =
+      elim (append-In a (initial_writes m) (calls (events_after [] es)) i) [
+        | inl j ↦
+            (let x = initials-In m a j in inl (x.0, x.2))
+        | inr j ↦ inr j
+      ]
+
   known : (m k : ℕ) (a : Operation) → In a (of_register k (initial_writes m ++ calls (events_after [] es)))
       → Known (events_after [] es) a × (a.register ≡ k)
   known m k a i =
-      let r = of_register-In k (initial_writes m ++ calls (events_after [] es)) a i in (
-        elim (append-In a (initial_writes m) (calls (events_after [] es)) r.0) [
-          | inl j ↦
-              (let x = initials-In m a j in inl (x.0, x.2))
-          | inr j ↦ inr j
-        ],
-        r.1,
-      )
+      let r = of_register-In k (initial_writes m ++ calls (events_after [] es)) a i in
+      (known-whole m a r.0, r.1)
 
   initial : (a : Operation) → Known (events_after [] es) a → a.process ≡ None → a ≡ initial_write a.register
   initial a (inl (j, e)) q = e ∙ ap initial_write (sym (ap (λ (o : Operation). o.register) e))
@@ -429,3 +432,12 @@ pub accepted-history : (h : History) → IsRecorded h → (r : ℕ) → IsHistor
 accepted-history h rec r =
     subst (λ (g : History). IsHistory (of_register r (operations g))) (sym rec.is)
     (recorded-here rec.events rec.accepted (length (register_names rec.events)) r)
+
+pub operations-take-turns : (h : History) → IsRecorded h → (a b : Operation) (p : ℕ) → In a (operations h)
+    → In b (operations h) → a.process ≡ Some p → b.process ≡ Some p → (a ≡ b) ⊎ (Precedes a b ⊎ Precedes b a)
+operations-take-turns h rec =
+    subst (λ (g : History). (a b : Operation) (p : ℕ) → In a (operations g) → In b (operations g)
+    → a.process ≡ Some p → b.process ≡ Some p → (a ≡ b) ⊎ (Precedes a b ⊎ Precedes b a)) (sym rec.is)
+    (λ a b p i j. turns rec.events rec.accepted a b p
+    (known-whole rec.events rec.accepted (length (register_names rec.events)) a i)
+    (known-whole rec.events rec.accepted (length (register_names rec.events)) b j))

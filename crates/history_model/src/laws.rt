@@ -24,6 +24,13 @@ pub fn accepted_is_history()
     ensures { (h : History) → IsRecorded h → (r : ℕ) → IsHistory (of_register r (operations h)) }
 {}
 
+/// The operations of one process come one after another, whatever their registers.
+pub fn operations_take_turns()
+    ensures { (h : History) → IsRecorded h → (a b : AnOperation) (p : ℕ) → In a (operations h)
+        → In b (operations h) → a.process ≡ Some p → b.process ≡ Some p
+        → (a ≡ b) ⊎ (Precedes a b ⊎ Precedes b a) }
+{}
+
 /// Each register has its initial write.
 pub fn initial_is_there()
     ensures { (h : History) (r : ℕ) → r < length h.names
