@@ -20,15 +20,15 @@ extern "C" {
 /* How a call ended. The numbers are those of the programs' exit statuses, as far as they have them. */
 enum regcheck_status {
     REGCHECK_ATOMIC = 0,     /* the history is atomic (linearizable), and `out` has its report */
-    REGCHECK_KEPT = 0,       /* of reglevel_report: the level holds of each register */
+    REGCHECK_KEPT = 0,       /* of reglevel_report: the level holds of each register, or of the whole */
     REGCHECK_NOT_ATOMIC = 1, /* it isn't, and `out` has its report */
-    REGCHECK_BROKEN = 1,     /* of reglevel_report: of some register it doesn't */
+    REGCHECK_BROKEN = 1,     /* of reglevel_report: of some register, or of the whole, it doesn't */
     REGCHECK_REFUSED = 2,    /* the input is refused */
     REGCHECK_BAD_NUMBER = 3, /* of reglevel_report alone: `level` or `more` stands for nothing */
     REGCHECK_NO_MEMORY = 4,  /* memory ran out */
     REGCHECK_TOO_SMALL = 5,  /* the report is longer than `out`: call again with room for `length` bytes */
-    REGCHECK_UNKNOWN = 6     /* of regsearch_report alone: not decided within the bounds, and `out` has the
-                                report */
+    REGCHECK_UNKNOWN = 6     /* of regsearch_report, and of reglevel_report if REGLEVEL_CAUSAL is required:
+                                not decided within the bounds, and `out` has the report */
 };
 
 typedef struct regcheck_answer {
@@ -67,13 +67,14 @@ enum reglevel_level {
     REGLEVEL_SESSION = 2,
     REGLEVEL_OWN_WRITES = 3,
     REGLEVEL_MONOTONIC = 4,
-    REGLEVEL_SEQUENTIAL = 5
+    REGLEVEL_SEQUENTIAL = 5,
+    REGLEVEL_CAUSAL = 6 /* of all registers together */
 };
 
 /* What a report of levels has to say in addition: a sum of these. */
 enum reglevel_more {
     REGLEVEL_STALE = 1, /* each stale read with the write that it missed */
-    REGLEVEL_ORDERS = 2 /* an order for the strongest level that holds */
+    REGLEVEL_ORDERS = 2 /* an order for the strongest level of each register, and one if all is causal */
 };
 
 /* Checks the history as the program `reglevel` does. `level` is an enum reglevel_level, and `more` a sum of

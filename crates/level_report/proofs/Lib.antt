@@ -1,3 +1,5 @@
+mod CausalShown
+mod AllListed
 mod Listing
 mod Ready
 mod Ahead

@@ -1,22 +1,29 @@
 -- What a report says of a level holds, of each register and so of all.
 use Rattle.std.proofs.Common.{◌≡◌, ◌∙◌, ◌⊎◌, inl, inr, ℕ, zero, suc, Bool, true, false, List, []}
-use Rattle.std.proofs.Common.{◌∷◌}
+use Rattle.std.proofs.Common.{◌∷◌, ◌≤◌}
 use Rattle.std.proofs.Common.{length, slice_get, Option, Some, None, Result, Ok, Err, is_none, refl, sym, ap}
-use Rattle.std.proofs.Common.{subst, arith, cond, ◌&&◌, unwrap_or}
+use Rattle.std.proofs.Common.{subst, arith, ◌&&◌, unwrap_or}
 use Rattle.std.specs.Prelude.{◌↔◌, MatchBool}
 use Rattle.std.specs.List.{list_all}
-use Rattle.std.proofs.lemmas.Bool.{le-ltb, and_parts}
+use Rattle.std.proofs.lemmas.Bool.{cases_lt, le-ltb, and_parts}
 use Rattle.std.proofs.lemmas.Option.{slice_get_within}
 use Rattle.history_text.specs.declared.limits.TheConstants.{MAX_INPUT}
 use Rattle.history_text.specs.Reading.{history_lines}
 use Rattle.history_model.specs.History.{History, IsRecorded}
 use Rattle.history_model.specs.Legal.{HasOrderFor, IsAtomic}
-use Rattle.history_model.specs.Operations.{IsHistory, Precedes, register_of}
+use Rattle.history_model.specs.Operations.{IsHistory, Precedes, operations, register_of}
 use Rattle.history_model.specs.declared.guarantee.Guarantee.{Guarantee}
 use Rattle.history_model.specs.declared.guarantee.Guarantee.TheVariants as guarantee
 use Rattle.history_model.specs.declared.operation.Operation.{Operation}
 use Rattle.history_model.proofs.Lists.{slice_get_inside}
-use Rattle.history_model.proofs.Recorded.{accepted-history}
+use Rattle.history_model.proofs.Locality.{each_decides}
+use Rattle.history_model.proofs.Named.{operation-has-register}
+use Rattle.history_model.proofs.Placed.{history-timed}
+use Rattle.history_model.proofs.Recorded.{accepted-history, of_register-In}
+use Rattle.history_model.specs.Lists.{In}
+use Rattle.causal_laws.proofs.FromSequential.{atomic-causal}
+use Rattle.causal_laws.proofs.Whole.{recorded-whole}
+use Rattle.level_report.specs.Registers.{AreLines}
 use Rattle.reg_intake.specs.Arena.{IsArenaOf}
 use Rattle.reg_intake.specs.declared.refusal.Refusal.{Refusal}
 use Rattle.reg_intake.specs.declared.refusal.Refusal.TheVariants.{TooLong}
@@ -42,12 +49,20 @@ use Rattle.level_text.specs.declared.report.RegisterLevels.{RegisterLevels}
 use Rattle.level_report.specs.Answer.{IsAnswer, IsAnswerText, IsAnswerToLines, IsOutcome, IsOutcomeOf}
 use Rattle.level_report.specs.Answer.{IsAnswerOf}
 use Rattle.level_report.specs.declared.outcome.Outcome.{Outcome}
-use Rattle.level_report.specs.declared.outcome.Outcome.TheVariants.{Kept, Broken}
 use Rattle.level_text.specs.declared.report.Totals.{Totals}
 use Rattle.level_report.specs.Freshness.{IsFreshness}
 use Rattle.level_report.specs.Guarantees.{IsSession, IsVerdict}
+use Rattle.level_report.specs.Causal.{IsCausalAnswer}
 use Rattle.level_report.specs.Meaning.{EachHolds, Holds, IsRegisterLine, IsReport}
-use Rattle.level_report.specs.Totals.{all_say, AreTotals, half_of, says, totals_say}
+use Rattle.causal_laws.specs.Causal.{IsCausal}
+use Rattle.causal_order.specs.Decisions.{IsBeyond}
+use Rattle.level_text.specs.declared.causal.CausalLines.{CausalLines}
+use Rattle.level_text.specs.declared.causal.CausalVerdict.{CausalVerdict}
+use Rattle.level_text.specs.declared.causal.CausalVerdict.TheVariants.{Yes, No, Unknown}
+use Rattle.level_text.specs.declared.report.Required.{Required}
+use Rattle.level_text.specs.declared.report.Required.TheVariants.{Each, Causal}
+use Rattle.level_report.specs.Totals.{all_say, AreTotals, half_of, outcome_of_level, outcome_of_verdict}
+use Rattle.level_report.specs.Totals.{outcome_said, says, totals_say}
 use Rattle.level_report.specs.declared.settings.Asked.{Asked}
 
 -- ---- one register
@@ -170,24 +185,48 @@ one-fails test (r ∷ rs) none = go (test r) refl (one-fails test rs) none
     go true q later none = let x = later none in (suc x.0, x.1, x.2, x.3)
     go false q later none = (zero, r, refl, q)
 
-pub each-told : (h : History) (rec : IsRecorded h) (asked : Asked) (report : LevelsReport)
-    → IsReport h asked report → (level : LevelName)
-    → IsAnswerTo (all_say level report.registers.items) (EachHolds level h)
-each-told h rec asked report is level = go (all_say level report.registers.items) refl
+each-told : (h : History) (rec : IsRecorded h) (asked : Asked) (regs : List RegisterLevels)
+    → AreLines h asked regs → (level : LevelName) → IsAnswerTo (all_say level regs) (EachHolds level h)
+each-told h rec asked regs is level = go (all_say level regs) refl
   where
-    go : (b : Bool) → all_say level report.registers.items ≡ b
-        → IsAnswerTo (all_say level report.registers.items) (EachHolds level h)
+    go : (b : Bool) → all_say level regs ≡ b → IsAnswerTo (all_say level regs) (EachHolds level h)
     go true q = rw q (λ r below.
-        let x = slice_get_inside report.registers.items r (omega (arith, below, is.count)) in
-        let says_so = all-at (says level) report.registers.items q r x.0 x.1 in
+        let x = slice_get_inside regs r (omega (arith, below, is.count)) in
+        let says_so = all-at (says level) regs q r x.0 x.1 in
         subst (λ b. IsAnswerTo b (Holds level (register_of h r))) says_so
         (line-told h rec asked r x.0 (is.each r x.0 x.1) level))
     go false q = rw q (λ each.
-        let x = one-fails (says level) report.registers.items q in
-        let below = slice_get_within report.registers.items x.0 x.1 x.2 in
+        let x = one-fails (says level) regs q in
+        let below = slice_get_within regs x.0 x.1 x.2 in
         subst (λ b. IsAnswerTo b (Holds level (register_of h x.0))) x.3
         (line-told h rec asked x.0 x.1 (is.each x.0 x.1 x.2) level)
         (each x.0 (omega (arith, below, is.count))))
+
+-- a register that no call names has no operations
+none-atomic : (h : History) → IsRecorded h → (r : ℕ) → length h.names ≤ r → IsAtomic (register_of h r)
+none-atomic h rec r past = (
+  [],
+  record {
+    completion = record { once = λ a i. absurd i; only = λ a i. absurd i; all = λ a i c. absurd (none a i) };
+    keeps = λ a b i. absurd i;
+    met = λ a i. absurd i;
+  },
+)
+  where
+    none : (a : Operation) → In a (register_of h r) → ⊥
+    none a i =
+        let x = of_register-In r (operations h) a i in
+        let below = operation-has-register h rec a x.0 in
+        absurd (omega (arith, past, below, x.1))
+
+-- if all lines say atomic, the history is causal
+pub atomic-causes : (h : History) (rec : IsRecorded h) (asked : Asked) (regs : List RegisterLevels)
+    → AreLines h asked regs → all_say Atomic regs ≡ true → IsCausal (operations h)
+atomic-causes h rec asked regs is all =
+    let each = subst (λ b. IsAnswerTo b (EachHolds Atomic h)) all (each-told h rec asked regs is Atomic) in
+    atomic-causal (operations h) (recorded-whole h rec)
+    ((each_decides (operations h) (λ r. history-timed (register_of h r) (accepted-history h rec r))).1
+    (λ r. elim (cases_lt r (length h.names)) [ inl l ↦ each r l | inr l ↦ none-atomic h rec r l ]))
 
 -- the summary says of a level what all lines say
 totals-told : (regs : List RegisterLevels) (t : Totals) → AreTotals regs t → (level : LevelName)
@@ -226,42 +265,54 @@ outcome-told h rec asked report is level = go level
     t : Totals
     t = report.totals
 
+    lines : AreLines h asked report.registers.items
+    lines = record { count = is.count; each = is.each }
+
     whole : t.session ≡ true → EachHolds Session h
     whole q = subst (λ b. IsAnswerTo b (EachHolds Session h)) (sym is.totals.session ∙ q)
-        (each-told h rec asked report is Session)
+        (each-told h rec asked report.registers.items lines Session)
 
     go : (level : LevelName) → IsAnswerTo (totals_say level t) (EachHolds level h)
     go Atomic = subst (λ b. IsAnswerTo b (EachHolds Atomic h)) (sym is.totals.atomic)
-        (each-told h rec asked report is Atomic)
+        (each-told h rec asked report.registers.items lines Atomic)
     go Regular = subst (λ b. IsAnswerTo b (EachHolds Regular h)) (sym is.totals.regular)
-        (each-told h rec asked report is Regular)
+        (each-told h rec asked report.registers.items lines Regular)
     go Session = subst (λ b. IsAnswerTo b (EachHolds Session h)) (sym is.totals.session)
-        (each-told h rec asked report is Session)
+        (each-told h rec asked report.registers.items lines Session)
     go Sequential = subst (λ b. IsAnswerTo b (EachHolds Sequential h)) (sym is.totals.sequential)
-        (each-told h rec asked report is Sequential)
+        (each-told h rec asked report.registers.items lines Sequential)
     go OwnWrites = elim (totals-told report.registers.items t is.totals OwnWrites (sym is.totals.session)) [
       | inl q ↦ subst (λ b. IsAnswerTo b (EachHolds OwnWrites h)) (sym q)
-          (each-told h rec asked report is OwnWrites)
+          (each-told h rec asked report.registers.items lines OwnWrites)
       | inr q ↦ subst (λ b. IsAnswerTo b (EachHolds OwnWrites h)) (sym q.1)
           (session-says h rec OwnWrites (whole q.0) (inl refl))
     ]
     go Monotonic = elim (totals-told report.registers.items t is.totals Monotonic (sym is.totals.session)) [
       | inl q ↦ subst (λ b. IsAnswerTo b (EachHolds Monotonic h)) (sym q)
-          (each-told h rec asked report is Monotonic)
+          (each-told h rec asked report.registers.items lines Monotonic)
       | inr q ↦ subst (λ b. IsAnswerTo b (EachHolds Monotonic h)) (sym q.1)
           (session-says h rec Monotonic (whole q.0) (inr refl))
     ]
 
 -- ---- an input
 
-pub outcome-is : (h : History) (asked : Asked) (report : LevelsReport) (level : LevelName) → IsRecorded h
-    → IsReport h asked report → IsOutcomeOf level h (cond (totals_say level report.totals) Kept Broken)
-outcome-is h asked report level rec is =
+causal-told : (ops : List Operation) (orders : Bool) (verdict : CausalVerdict) (c : CausalLines)
+    → IsCausalAnswer ops orders verdict c → (h : History) → ops ≡ operations h
+    → IsOutcomeOf Causal h (outcome_of_verdict verdict)
+causal-told ops orders Yes c is h same = subst IsCausal same is.0
+causal-told ops orders No c is h same = λ causal. is.0 (subst IsCausal (sym same) causal)
+causal-told ops orders Unknown c is h same = (refl, subst IsBeyond same is.0)
+
+pub outcome-is : (h : History) (asked : Asked) (report : LevelsReport) (required : Required) → IsRecorded h
+    → IsReport h asked report → IsOutcomeOf required h (outcome_said required report.totals)
+outcome-is h asked report (Each level) rec is =
     go (totals_say level report.totals) (outcome-told h rec asked report is level)
   where
-    go : (b : Bool) → IsAnswerTo b (EachHolds level h) → IsOutcomeOf level h (cond b Kept Broken)
+    go : (b : Bool) → IsAnswerTo b (EachHolds level h) → IsOutcomeOf (Each level) h (outcome_of_level b)
     go true a = a
     go false a = a
+outcome-is h asked report Causal rec is =
+    causal-told (operations h) asked.orders report.totals.causal.verdict report.totals.causal is.causal h refl
 
 pub answer-to : (asked : Asked) (input : List ℕ) (arena : History) (report : LevelsReport)
     → IsArenaOf input arena → IsReport arena asked report → IsAnswer asked input (Ok report)
@@ -272,10 +323,10 @@ answer-to asked input arena report read is =
     (read.well_formed, subst (λ h. IsReport h asked report) read.is is)
 
 -- what is told of an input's arena is told of the input
-pub answer-of : (asked : Asked) (level : LevelName) (input : List ℕ) (arena : History) (bytes : List ℕ)
-    (outcome : Outcome) → IsArenaOf input arena → IsAnswerOf asked level arena bytes outcome
-    → IsAnswerText asked input bytes × IsOutcome level input outcome
-answer-of asked level input arena bytes outcome read told = (
+pub answer-of : (asked : Asked) (required : Required) (input : List ℕ) (arena : History) (bytes : List ℕ)
+    (outcome : Outcome) → IsArenaOf input arena → IsAnswerOf asked required arena bytes outcome
+    → IsAnswerText asked input bytes × IsOutcome required input outcome
+answer-of asked required input arena bytes outcome read told = (
   (told.0, answer-to asked input arena told.0 read told.1, told.2),
-  subst (λ h. IsOutcomeOf level h outcome) read.is told.3,
+  subst (λ h. IsOutcomeOf required h outcome) read.is told.3,
 )

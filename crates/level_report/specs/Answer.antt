@@ -4,15 +4,18 @@ use Rattle.history_text.specs.declared.limits.TheConstants.{MAX_INPUT}
 use Rattle.history_text.specs.Reading.{history_lines}
 use Rattle.history_model.specs.Refusals.{Line, IsRefusal, IsWellFormed, events_of}
 use Rattle.history_model.specs.History.{History, history_of}
+use Rattle.history_model.specs.Operations.{operations}
+use Rattle.causal_order.specs.Decisions.{IsBeyond}
 use Rattle.reg_intake.specs.declared.refusal.Refusal.{Refusal}
 use Rattle.reg_intake.specs.declared.refusal.Refusal.TheVariants.{At, TooLong, InputFailed}
 use Rattle.reg_intake.specs.declared.refusal.Refusal.TheVariants.{NoRoom, OutputFailed}
 use Rattle.level_text.specs.Text.{report_text}
-use Rattle.level_text.specs.declared.report.LevelName.{LevelName}
+use Rattle.level_text.specs.declared.report.Required.{Required}
+use Rattle.level_text.specs.declared.report.Required.TheVariants.{Causal}
 use Rattle.level_text.specs.declared.report.LevelsReport.{LevelsReport}
-use Rattle.level_report.specs.Meaning.{EachHolds, IsReport}
+use Rattle.level_report.specs.Meaning.{IsReport, KeepsRequired}
 use Rattle.level_report.specs.declared.outcome.Outcome.{Outcome}
-use Rattle.level_report.specs.declared.outcome.Outcome.TheVariants.{Kept, Broken}
+use Rattle.level_report.specs.declared.outcome.Outcome.TheVariants.{Kept, Broken, Unknown}
 use Rattle.level_report.specs.declared.settings.Asked.{Asked}
 
 -- of the lines of an input: a report of their history if they are well formed, otherwise the refusal of the
@@ -41,17 +44,18 @@ IsAnswerText asked input bytes =
 abbrev pub IsRefused : Asked → List ℕ → Refusal → Type 0
 IsRefused asked input refusal = (refusal ≡ NoRoom) ⊎ IsAnswer asked input (Err refusal)
 
--- the level holds of each register of a history, or of some it doesn't
-abbrev pub IsOutcomeOf : LevelName → History → Outcome → Type 0
-IsOutcomeOf level h Kept = EachHolds level h
-IsOutcomeOf level h Broken = EachHolds level h → ⊥
+-- a history kept what is required, or it didn't, or it was left undecided whether it is causal
+abbrev pub IsOutcomeOf : Required → History → Outcome → Type 0
+IsOutcomeOf required h Kept = KeepsRequired required h
+IsOutcomeOf required h Broken = KeepsRequired required h → ⊥
+IsOutcomeOf required h Unknown = (required ≡ Causal) × IsBeyond (operations h)
 
 -- the same of the history in these bytes
-abbrev pub IsOutcome : LevelName → List ℕ → Outcome → Type 0
-IsOutcome level input outcome = IsOutcomeOf level (history_of (events_of (history_lines input))) outcome
+abbrev pub IsOutcome : Required → List ℕ → Outcome → Type 0
+IsOutcome required input outcome = IsOutcomeOf required (history_of (events_of (history_lines input))) outcome
 
--- the bytes of a report of a history, and whether the level holds of it
-abbrev pub IsAnswerOf : Asked → LevelName → History → List ℕ → Outcome → Type 0
-IsAnswerOf asked level h bytes outcome =
+-- the bytes of a report of a history, and whether it kept what is required
+abbrev pub IsAnswerOf : Asked → Required → History → List ℕ → Outcome → Type 0
+IsAnswerOf asked required h bytes outcome =
     (report : LevelsReport) × IsReport h asked report × (bytes ≡ report_text report)
-    × IsOutcomeOf level h outcome
+    × IsOutcomeOf required h outcome

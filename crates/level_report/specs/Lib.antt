@@ -1,3 +1,5 @@
+pub mod Causal
+pub mod Steps
 pub mod Shown
 pub mod Called
 pub mod Lines

@@ -2,7 +2,8 @@
 use Rattle.std.specs.Prelude.{◌≡◌, ◌<◌, ℕ, List, length, slice_get, Some}
 use Rattle.history_model.specs.History.{History}
 use Rattle.history_model.specs.Legal.{HasOrderFor, IsAtomic}
-use Rattle.history_model.specs.Operations.{register_of}
+use Rattle.causal_laws.specs.Causal.{IsCausal}
+use Rattle.history_model.specs.Operations.{operations, register_of}
 use Rattle.history_model.specs.declared.guarantee.Guarantee.TheVariants as guarantee
 use Rattle.history_model.specs.declared.operation.Operation.{Operation}
 use Rattle.reg_counts.specs.Staleness.{IsRegularForAll}
@@ -11,7 +12,10 @@ use Rattle.level_text.specs.declared.report.LevelName.TheVariants.{Atomic, Regul
 use Rattle.level_text.specs.declared.report.LevelName.TheVariants.{OwnWrites, Monotonic, Sequential}
 use Rattle.level_text.specs.declared.report.LevelsReport.{LevelsReport}
 use Rattle.level_text.specs.declared.report.RegisterLevels.{RegisterLevels}
+use Rattle.level_text.specs.declared.report.Required.{Required}
+use Rattle.level_text.specs.declared.report.Required.TheVariants.{Each, Causal}
 use Rattle.level_report.specs.Called.{AreCalled}
+use Rattle.level_report.specs.Causal.{IsCausalSaid}
 use Rattle.level_report.specs.Freshness.{IsFreshness}
 use Rattle.level_report.specs.Guarantees.{AreGuarantees, IsOrderShown}
 use Rattle.level_report.specs.Totals.{AreTotals}
@@ -42,9 +46,15 @@ Holds Sequential ops = HasOrderFor guarantee.Sequential ops
 abbrev pub EachHolds : LevelName → History → Type 0
 EachHolds level h = (r : ℕ) → r < length h.names → Holds level (register_of h r)
 
+-- a history keeps what is required: of a level, each register does
+abbrev pub KeepsRequired : Required → History → Type 0
+KeepsRequired (Each level) h = EachHolds level h
+KeepsRequired Causal h = IsCausal (operations h)
+
 -- the report of a history: the line of each register in the order of the first calls, and the summary
 pub record IsReport (h : History) (asked : Asked) (report : LevelsReport) : Type 0 where
   pub count : length report.registers.items ≡ length h.names
   pub each : (r : ℕ) (reg : RegisterLevels) → slice_get report.registers.items r ≡ Some reg
       → IsRegisterLine h asked r reg
   pub totals : AreTotals report.registers.items report.totals
+  pub causal : IsCausalSaid (operations h) asked.orders report.totals.causal

@@ -6,7 +6,7 @@ use Rattle.byte_ends.specs.Ends.{AppendsBeginning}
 use Rattle.reg_intake.specs.declared.refusal.Refusal.{Refusal}
 use Rattle.reg_intake.specs.declared.refusal.Refusal.TheVariants.{At, TooLong, InputFailed}
 use Rattle.reg_intake.specs.declared.refusal.Refusal.TheVariants.{NoRoom, OutputFailed}
-use Rattle.level_text.specs.declared.report.LevelName.{LevelName}
+use Rattle.level_text.specs.declared.report.Required.{Required}
 use Rattle.level_report.specs.Answer.{IsAnswer, IsAnswerText, IsOutcome}
 use Rattle.level_report.specs.declared.outcome.Outcome.{Outcome}
 use Rattle.level_report.specs.declared.settings.Asked.{Asked}
@@ -20,16 +20,16 @@ IsOfInput NoRoom = ⊥
 IsOfInput OutputFailed = ⊥
 
 -- the answer to all the bytes that were left is a report: its bytes were taken, and the outcome says whether
--- the level holds of the same history
-abbrev pub Reports : Asked → LevelName → Option (List ℕ) → Option (List ℕ) → Option (List ℕ) → Outcome
+-- the same history kept what is required
+abbrev pub Reports : Asked → Required → Option (List ℕ) → Option (List ℕ) → Option (List ℕ) → Outcome
     → Type 0
-Reports asked level left old new outcome =
-    (input : List ℕ) × IsAll left input × IsOutcome level input outcome × (bytes : List ℕ)
+Reports asked required left old new outcome =
+    (input : List ℕ) × IsAll left input × IsOutcome required input outcome × (bytes : List ℕ)
     × IsAnswerText asked input bytes × Appends old new bytes
 
--- whether the level holds of the history in all the bytes that were left
-abbrev pub Tells : LevelName → Option (List ℕ) → Outcome → Type 0
-Tells level left outcome = (input : List ℕ) × IsAll left input × IsOutcome level input outcome
+-- whether the history in all the bytes that were left kept what is required
+abbrev pub Tells : Required → Option (List ℕ) → Outcome → Type 0
+Tells required left outcome = (input : List ℕ) × IsAll left input × IsOutcome required input outcome
 
 -- the answer to all the bytes that were left is a report, of which a beginning was taken
 abbrev pub ReportsBeginning : Asked → Option (List ℕ) → Option (List ℕ) → Option (List ℕ) → Type 0

@@ -1,9 +1,11 @@
 -- An operation as an arena shows it, and what holds of a register's operations.
-use Rattle.std.specs.Prelude.{ℕ, ◌<◌, List, count_by, is_some, unwrap_or}
+use Rattle.std.specs.Prelude.{ℕ, ◌<◌, ◌^◌, List, count_by, is_some, length, unwrap_or}
 use Rattle.history_model.specs.Acts.{plain_act}
 use Rattle.history_model.specs.Operations.{is_write, IsHistory}
 use Rattle.history_model.specs.declared.op.Op.{Op}
 use Rattle.history_model.specs.declared.operation.Operation.{Operation}
+use Rattle.causal_laws.specs.Causal.{IsWhole}
+use Rattle.session_clocks.specs.Sessions.{IsCalledInOrder}
 use Rattle.reg_clusters.specs.Places.{AreFew, IsByCall}
 
 -- the operation that is shown; a missing reply has the time `end`
@@ -24,3 +26,9 @@ pub record AreReady (ops : List Operation) : Type 0 where
   pub by_call : IsByCall ops
   pub few : AreFew ops
   pub initial : 0 < count_by is_write ops
+
+-- all that the floors below ask of a whole history's operations
+pub record AreAllReady (ops : List Operation) : Type 0 where
+  pub whole : IsWhole ops
+  pub called : IsCalledInOrder ops
+  pub few : length ops < 2 ^ 22

@@ -3,12 +3,18 @@ use Rattle.std.specs.Prelude.{◌≡◌, ◌+◌, ◌&&◌, ℕ, Bool, true, Lis
 use Rattle.std.specs.Prelude.{not, cond, nat_lt, is_none, unwrap_or, option_map, Option, Some, None}
 use Rattle.std.specs.List.{list_all}
 use Rattle.reg_zones.specs.Clusters.{greatest}
+use Rattle.level_text.specs.declared.causal.CausalVerdict.{CausalVerdict}
+use Rattle.level_text.specs.declared.causal.CausalVerdict.TheVariants.{Yes, No, Unknown}
 use Rattle.level_text.specs.declared.report.GapLines.{GapLines}
 use Rattle.level_text.specs.declared.report.LevelName.{LevelName}
 use Rattle.level_text.specs.declared.report.LevelName.TheVariants.{Atomic, Regular, Session}
 use Rattle.level_text.specs.declared.report.LevelName.TheVariants.{OwnWrites, Monotonic, Sequential}
 use Rattle.level_text.specs.declared.report.RegisterLevels.{RegisterLevels}
+use Rattle.level_text.specs.declared.report.Required.{Required}
+use Rattle.level_text.specs.declared.report.Required.TheVariants.{Each, Causal}
 use Rattle.level_text.specs.declared.report.Totals.{Totals}
+use Rattle.level_report.specs.declared.outcome.Outcome.{Outcome}
+use Rattle.level_report.specs.declared.outcome.Outcome.TheVariants as outcome
 use Rattle.level_report.specs.declared.totals.Count.{Count}
 use Rattle.level_report.specs.declared.totals.Count.TheVariants as count
 
@@ -77,6 +83,19 @@ totals_say Session t = t.session
 totals_say OwnWrites t = unwrap_or t.own_writes true
 totals_say Monotonic t = unwrap_or t.monotonic true
 totals_say Sequential t = t.sequential
+
+-- the outcome by what the summary says
+abbrev pub outcome_of_level : Bool → Outcome
+outcome_of_level holds = cond holds outcome.Kept outcome.Broken
+
+abbrev pub outcome_of_verdict : CausalVerdict → Outcome
+outcome_of_verdict Yes = outcome.Kept
+outcome_of_verdict No = outcome.Broken
+outcome_of_verdict Unknown = outcome.Unknown
+
+abbrev pub outcome_said : Required → Totals → Outcome
+outcome_said (Each level) t = outcome_of_level (totals_say level t)
+outcome_said Causal t = outcome_of_verdict t.causal.verdict
 
 -- the count of a register, if it has one
 abbrev pub count_of : Count → RegisterLevels → Option ℕ

@@ -10,8 +10,8 @@ use crate::whole::answer_of;
 use reg_intake::{Refusal, arena_alone};
 use std::alloc::Global;
 
-/// The bytes of the report that [`run`](crate::run) makes of the history in the input, and whether the level
-/// that is asked for holds. It takes no right to start threads, whatever the number of workers.
+/// The bytes of the report that [`run`](crate::run) makes of the history in the input, and whether that kept
+/// what is required. It takes no right to start threads, whatever the number of workers.
 ///
 /// # Errors
 /// `TooLong` if the input has more than [`MAX_INPUT`](history_text::MAX_INPUT) bytes, whatever memory there
@@ -21,8 +21,7 @@ pub fn check_alone(
     input: &[u8],
     settings: Settings,
 ) -> Result<(Vec<u8>, Outcome), Refusal>
-    // The report is that of the input, and the level that is asked for holds of each register, or of some it
-    // doesn't.
+    // The report is that of the input, and so is what came of what is required.
     ensures ok { IfOk result (λ made. IsAnswerText settings.asked input.now made.0.items
         × IsOutcome settings.required input.now made.1) }
     ensures err { IfErr result (IsRefused settings.asked input.now) }

@@ -28,7 +28,11 @@ fn add_line(lines: &mut Vec<u32>, ops: &[Operation], place: u32) -> Result<(), A
 }
 
 /// The lines of the operations at these places, without the initial write.
-fn called_lines(alloc: Global, ops: &[Operation], places: &[u32]) -> Result<Vec<u32>, AllocError>
+pub(crate) fn called_lines(
+    alloc: Global,
+    ops: &[Operation],
+    places: &[u32],
+) -> Result<Vec<u32>, AllocError>
     ensures { IfOk result (λ lines. lines.items ≡ lines_of (operations_of_places ops.now places.now)) }
 {
     let mut lines = Vec::with_capacity(alloc, places.len())?;

@@ -1,17 +1,18 @@
-//! Whether the level that was asked for holds.
-ghost use Rattle.std.specs.Prelude.{◌≡◌, cond};
-ghost use Rattle.level_report.specs.Totals.{totals_say};
-ghost use Rattle.level_report.specs.declared.outcome.Outcome.TheVariants.{Kept, Broken};
+//! Whether a history kept what was required.
+ghost use Rattle.std.specs.Prelude.{◌≡◌};
+ghost use Rattle.level_report.specs.Totals.{outcome_said, outcome_of_level, outcome_of_verdict, totals_say};
 
-use level_text::{LevelName, Totals};
+use level_text::{CausalVerdict, LevelName, Required, Totals};
 
-/// Whether a history kept the level that was asked for.
+/// Whether a history kept what was required.
 #[derive(Clone, Copy, Debug, PartialEq, Eq)]
 pub enum Outcome {
-    /// Each register did.
+    /// It did: of a level, each register.
     Kept,
-    /// Some register didn't.
+    /// It didn't: of a level, some register.
     Broken,
+    /// Causal was required, and the history has so many sessions and operations that it was left undecided.
+    Unknown,
 }
 
 /// What the last line says of a level; a session that was kept has both of its halves.
@@ -28,13 +29,32 @@ fn says(totals: &Totals, level: LevelName) -> bool
     }
 }
 
-/// Whether the level holds, by the last line.
-pub(crate) fn outcome_for(totals: &Totals, level: LevelName) -> Outcome
-    ensures { result ≡ cond (totals_say level totals.now) Kept Broken }
+fn of_level(holds: bool) -> Outcome
+    ensures { result ≡ outcome_of_level holds }
 {
-    if says(totals, level) {
+    if holds {
         Outcome::Kept
     } else {
         Outcome::Broken
+    }
+}
+
+fn of_verdict(verdict: CausalVerdict) -> Outcome
+    ensures { result ≡ outcome_of_verdict verdict }
+{
+    match verdict {
+        CausalVerdict::Yes => Outcome::Kept,
+        CausalVerdict::No => Outcome::Broken,
+        CausalVerdict::Unknown => Outcome::Unknown,
+    }
+}
+
+/// Whether what is required was kept, by the last line.
+pub(crate) fn outcome_for(totals: &Totals, required: Required) -> Outcome
+    ensures { result ≡ outcome_said required totals.now }
+{
+    match required {
+        Required::Each(level) => of_level(says(totals, level)),
+        Required::Causal => of_verdict(totals.causal.verdict),
     }
 }

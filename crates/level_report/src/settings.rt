@@ -1,7 +1,7 @@
 //! What a run asks for.
 ghost use Rattle.std.specs.Prelude.{◌≡◌, ◌≤◌, None, Some};
 
-use level_text::LevelName;
+use level_text::Required;
 
 /// The most workers that share the registers.
 pub const MAX_WORKERS: u32 = 16;
@@ -11,22 +11,22 @@ pub const MAX_WORKERS: u32 = 16;
 pub struct Asked {
     /// Each stale read with the write that it missed.
     pub stale: bool,
-    /// An order for the strongest level that holds.
+    /// An order for the strongest level that a register kept, and one of all writes if the history is causal.
     pub orders: bool,
 }
 
-/// How many workers share the registers, which level has to hold, and what the report has to say. The
+/// How many workers share the registers, what a history has to keep, and what the report has to say. The
 /// number of workers changes no report.
 #[derive(Clone, Copy, Debug)]
 pub struct Settings {
     workers: u32,
-    required: LevelName,
+    required: Required,
     asked: Asked,
 }
 
 impl Settings {
     /// Settings, if there are 1 to [`MAX_WORKERS`] workers.
-    pub fn new(workers: u32, required: LevelName, asked: Asked) -> Option<Settings>
+    pub fn new(workers: u32, required: Required, asked: Asked) -> Option<Settings>
         ensures some { (1 ≤ workers) → (workers ≤ MAX_WORKERS)
             → result ≡ Some (record { workers = workers; required = required; asked = asked }) }
         ensures none { ((1 ≤ workers) × (workers ≤ MAX_WORKERS) → ⊥) → result ≡ None }
@@ -42,7 +42,7 @@ impl Settings {
     }
 
     /// Settings for the calling thread alone.
-    pub fn alone(required: LevelName, asked: Asked) -> Settings
+    pub fn alone(required: Required, asked: Asked) -> Settings
         ensures { result ≡ record { workers = 1; required = required; asked = asked } }
     {
         Settings {
@@ -59,8 +59,8 @@ impl Settings {
         self.workers
     }
 
-    /// The level that has to hold of each register.
-    pub(crate) fn required(self) -> LevelName
+    /// What a history has to keep.
+    pub(crate) fn required(self) -> Required
         ensures { result ≡ self.required }
     {
         self.required

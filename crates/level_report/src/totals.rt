@@ -5,7 +5,7 @@ ghost use Rattle.level_report.specs.Totals.{says as says_of, told as is_told, to
 ghost use Rattle.level_report.specs.Totals.{whole_gap as gap_of_whole, AreTotals};
 ghost use Rattle.reg_zones.specs.Clusters.{greatest};
 
-use level_text::{LevelName, RegisterLevels, Totals};
+use level_text::{CausalLines, LevelName, RegisterLevels, Totals};
 
 /// What is summed over the registers.
 #[derive(Clone, Copy, Debug, PartialEq, Eq)]
@@ -67,7 +67,7 @@ fn says(reg: &RegisterLevels, level: LevelName) -> bool
 }
 
 /// Whether the lines of all registers say that the level holds.
-fn all_hold(regs: &[RegisterLevels], level: LevelName) -> bool
+pub(crate) fn all_hold(regs: &[RegisterLevels], level: LevelName) -> bool
     ensures { result ≡ all_say level regs.now }
 {
     regs.iter().all(|reg| says(reg, level))
@@ -118,10 +118,11 @@ fn whole_gap(atomic: bool, unclean: u64, events: u32) -> Option<u64>
     }
 }
 
-/// The last line, from those of the registers.
-pub(crate) fn totals(regs: &[RegisterLevels]) -> Totals
+/// The last line, from those of the registers and what is said of the whole history.
+pub(crate) fn totals(regs: &[RegisterLevels], causal: CausalLines) -> Totals
     requires { length regs.now < 2 ^ 21 }
-    ensures { AreTotals regs.now result }
+    ensures totals { AreTotals regs.now result }
+    ensures causal { result.causal ≡ causal }
 {
     let reads = total(regs, Count::Reads);
     let atomic = all_hold(regs, LevelName::Atomic);
@@ -132,6 +133,7 @@ pub(crate) fn totals(regs: &[RegisterLevels]) -> Totals
         reads,
         registers: regs.len() as u64,
         atomic,
+        causal,
         regular: all_hold(regs, LevelName::Regular),
         session,
         sequential: all_hold(regs, LevelName::Sequential),

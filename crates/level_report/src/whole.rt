@@ -8,19 +8,20 @@ ghost use Rattle.level_report.specs.Answer.{IsAnswerText, IsOutcome, IsAnswerOf}
 ghost use Rattle.level_report.specs.Registers.{AreLines};
 ghost use Rattle.level_report.specs.Run.{IsOfInput, IsRefusedWhole, Reports, ReportsBeginning, Tells};
 
+use crate::causal::causal_lines;
 use crate::outcome::{Outcome, outcome_for};
 use crate::registers::register_lines;
 use crate::settings::Settings;
-use crate::totals::totals;
+use crate::totals::{all_hold, totals};
 use byte_ends::{Sink, Source, deliver};
-use level_text::{LevelsReport, RegisterLevels, text};
+use level_text::{LevelName, LevelsReport, RegisterLevels, text};
 use reg_arena::Arena;
 use reg_intake::{Refusal, arena_of};
 use std::alloc::{AllocError, Global};
 use std::random::RandomSource;
 use std::thread::Threads;
 
-/// The bytes of the report whose lines are these, and whether the level that is asked for holds.
+/// The bytes of the report whose lines of registers are these, and whether the history kept what is required.
 pub(crate) fn answer_of(
     alloc: Global,
     arena: &Arena,
@@ -34,14 +35,16 @@ pub(crate) fn answer_of(
 {
     // Whatever an arena has is recorded; asking it for the number of its events says so.
     let _events = arena.event_count();
-    let totals = totals(&registers);
+    let atomic = all_hold(&registers, LevelName::Atomic);
+    let causal = causal_lines(alloc, arena, settings.asked().orders, atomic)?;
+    let totals = totals(&registers, causal);
     let report = LevelsReport { registers, totals };
     let bytes = text(alloc, &report)?;
     Ok((bytes, outcome_for(&report.totals, settings.required())))
 }
 
-/// The bytes of the report of all the bytes that the source has left, and whether the level that is asked for
-/// holds; or why there is none.
+/// The bytes of the report of all the bytes that the source has left, and whether the history
+/// kept what is required; or why there is none.
 fn answered<T: Threads + RandomSource + Sync, R: Source>(
     rt: &T,
     alloc: Global,
@@ -81,11 +84,13 @@ pub fn run<T: Threads + RandomSource + Sync, R: Source, W: Sink>(
 
     // The bytes that the sink took are the report of all the bytes that the source had left. Of each
     // register it says of each level yes exactly if a legal order keeps it (of regular, if no read is stale),
-    // the counts, and the gap. The outcome is that of the same history.
+    // the counts, and the gap. Of the whole it says yes only if a causal order of the writes exists, no only
+    // if none does, and unknown only if there are many sessions and operations. The outcome is that of the
+    // same history.
     ensures report { IfOk result (λ outcome. Reports settings.asked settings.required (R.left source.old)
         (W.taken sink.old) (W.taken sink.new) outcome) }
 
-    // The level that was asked for holds of each register, or of some it doesn't.
+    // What is required was kept or it wasn't; only causal may be left undecided.
     ensures level { IfOk result (Tells settings.required (R.left source.old)) }
     ensures flushed { OnOk result (W.is_flushed sink.new) }
 

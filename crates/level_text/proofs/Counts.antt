@@ -1,12 +1,12 @@
 -- How many fields the lines of a report have.
 use Rattle.std.proofs.Common.{◌≡◌, ℕ, ◌+◌, length, arith, codes}
-use Rattle.std.specs.Global.{Global}
-use Rattle.std.specs.Prelude.{is_some, Vec}
+use Rattle.std.specs.Prelude.{is_some}
 use Rattle.json_fields.specs.Fields.{fields_of, number_json, numbers_json, yes_or_no}
 use Rattle.json_fields.proofs.Fields.{length-fields_of, one_when, parts_len, shown_len}
 use Rattle.level_text.specs.Text.{early_json, fault_json, first_parts, first_totals, gap_json, last_parts}
-use Rattle.level_text.specs.Text.{last_totals, level_json, missed_json, pairs_json, register_parts}
-use Rattle.level_text.specs.Text.{second_parts, third_parts, totals_parts, went_back_json}
+use Rattle.level_text.specs.Text.{last_totals, level_json, missed_json, register_parts}
+use Rattle.level_text.specs.Text.{second_parts, second_totals, third_parts, totals_parts, went_back_json}
+use Rattle.level_text.specs.Causal.{causal_parts}
 use Rattle.level_text.specs.declared.report.OrderLines.{OrderLines}
 use Rattle.level_text.specs.declared.report.RegisterLevels.{RegisterLevels}
 use Rattle.level_text.specs.declared.report.Totals.{Totals}
@@ -63,13 +63,15 @@ pub register_count : (reg : RegisterLevels) (a b c d : ℕ) → a ≡ length (fi
 unfolding parts_len
 register_count reg a b c d ha hb hc hd = let whole = length-fields_of (register_parts reg) in omega arith
 
-pub totals_count : (totals : Totals) (a b c d : ℕ) → a ≡ one_when (is_some totals.gap)
-    → b ≡ one_when (is_some totals.monotonic) → c ≡ one_when (is_some totals.own_writes)
-    → d ≡ one_when (is_some totals.unclean) → 12 + a + b + c + d ≡ length (fields_of (totals_parts totals))
+pub totals_count : (totals : Totals) (n a b c d : ℕ) → n ≡ length (fields_of (causal_parts totals.causal))
+    → a ≡ one_when (is_some totals.gap) → b ≡ one_when (is_some totals.monotonic)
+    → c ≡ one_when (is_some totals.own_writes) → d ≡ one_when (is_some totals.unclean)
+    → 12 + n + a + b + c + d ≡ length (fields_of (totals_parts totals))
 unfolding parts_len
-totals_count totals a b c d ha hb hc hd =
+totals_count totals n a b c d hn ha hb hc hd =
     let whole = length-fields_of (totals_parts totals) in
     let one = length-fields_of (first_totals totals) in
+    let middle = length-fields_of (second_totals totals) in
     let other = length-fields_of (last_totals totals) in
     let sa = shown_len (codes "gap") number_json totals.gap in
     let sb = shown_len (codes "monotonic") yes_or_no totals.monotonic in

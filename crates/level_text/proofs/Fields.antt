@@ -5,12 +5,15 @@ use Rattle.std.specs.Prelude.{Vec}
 use Rattle.serde_json.specs.Data.{string}
 use Rattle.serde_json.specs.Events.{items_len}
 use Rattle.serde_json.specs.Written.{has_float}
-use Rattle.json_fields.specs.Fields.{fields_of, items_of, number_json, numbers_json, pair_json, yes_or_no}
-use Rattle.json_fields.proofs.Fields.{AllPlain, ArePlain, plain_always, plain_fields, plain_number}
+use Rattle.json_fields.specs.Fields.{items_of, number_json, numbers_json, pair_json, yes_or_no}
+use Rattle.json_fields.proofs.Fields.{AllPlain, plain_always, plain_fields, plain_number}
 use Rattle.json_fields.proofs.Fields.{plain_numbers, plain_parts, plain_shown, plain_yes}
 use Rattle.level_text.specs.Text.{early_json, fault_json, first_parts, first_totals, gap_json, last_parts}
 use Rattle.level_text.specs.Text.{last_totals, level_json, missed_json, pairs_json, register_json}
-use Rattle.level_text.specs.Text.{register_parts, second_parts, third_parts, totals_json, totals_parts}
+use Rattle.level_text.specs.Text.{register_parts, second_parts, second_totals, third_parts, totals_json}
+use Rattle.level_text.specs.Text.{totals_parts}
+use Rattle.level_text.specs.Causal.{causal_parts}
+use Rattle.level_text.proofs.CausalFields.{plain_causal}
 use Rattle.level_text.specs.Text.{fault_parts, went_back_json}
 use Rattle.level_text.specs.declared.report.MissedWrite.{MissedWrite}
 use Rattle.level_text.specs.declared.report.WentBack.{WentBack}
@@ -165,26 +168,23 @@ plain_last reg = (
 plain_first_totals : (totals : Totals) → AllPlain (first_totals totals)
 plain_first_totals totals = (
   plain_always (codes "atomic") (yes_or_no totals.atomic) (plain_yes totals.atomic),
+  (plain_always (codes "back") (number_json totals.back) refl, tt),
+)
+
+plain_second_totals : (totals : Totals) → AllPlain (second_totals totals)
+plain_second_totals totals = (
+  plain_shown (codes "gap") number_json totals.gap plain_number,
   (
-    plain_always (codes "back") (number_json totals.back) refl,
+    plain_always (codes "inverted") (number_json totals.inverted) refl,
     (
-      plain_shown (codes "gap") number_json totals.gap plain_number,
+      plain_always (codes "lost") (number_json totals.lost) refl,
       (
-        plain_always (codes "inverted") (number_json totals.inverted) refl,
+        plain_shown (codes "monotonic") yes_or_no totals.monotonic plain_yes,
         (
-          plain_always (codes "lost") (number_json totals.lost) refl,
+          plain_always (codes "operations") (number_json totals.operations) refl,
           (
-            plain_shown (codes "monotonic") yes_or_no totals.monotonic plain_yes,
-            (
-              plain_always (codes "operations") (number_json totals.operations) refl,
-              (
-                plain_always (codes "own") (number_json totals.own) refl,
-                (
-                  plain_shown (codes "own_writes") yes_or_no totals.own_writes plain_yes,
-                  tt,
-                ),
-              ),
-            ),
+            plain_always (codes "own") (number_json totals.own) refl,
+            (plain_shown (codes "own_writes") yes_or_no totals.own_writes plain_yes, tt),
           ),
         ),
       ),
@@ -231,5 +231,11 @@ register_has_no_float reg = plain_parts (register_parts reg) (
 pub totals_have_no_float : (totals : Totals) → has_float (totals_json totals) ≡ false
 totals_have_no_float totals = plain_parts (totals_parts totals) (
   plain_fields (first_totals totals) (plain_first_totals totals),
-  (plain_fields (last_totals totals) (plain_last_totals totals), tt),
+  (
+    plain_fields (causal_parts totals.causal) (plain_causal totals.causal),
+    (
+      plain_fields (second_totals totals) (plain_second_totals totals),
+      (plain_fields (last_totals totals) (plain_last_totals totals), tt),
+    ),
+  ),
 )

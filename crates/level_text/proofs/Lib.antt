@@ -1,3 +1,4 @@
+mod CausalFields
 mod Counts
 mod Fields
 mod Joined

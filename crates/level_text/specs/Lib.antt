@@ -1,2 +1,3 @@
+pub mod Causal
 pub mod Words
 pub mod Text

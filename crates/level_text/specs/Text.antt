@@ -6,6 +6,7 @@ use Rattle.std.specs.List.{concat}
 use Rattle.serde_json.specs.Data.{Data, string, array}
 use Rattle.json_fields.specs.Fields.{Field, always, shown, fields_of, items_of, number_json}
 use Rattle.json_fields.specs.Fields.{numbers_json, object_json, pair_json, yes_or_no, line_text}
+use Rattle.level_text.specs.Causal.{causal_parts}
 use Rattle.level_text.specs.Words.{word_of}
 use Rattle.level_text.specs.declared.report.LevelName.{LevelName}
 use Rattle.level_text.specs.declared.report.MissedWrite.{MissedWrite}
@@ -127,13 +128,15 @@ register_parts reg =
 abbrev pub register_json : RegisterLevels → Data
 register_json reg = object_json (register_parts reg)
 
--- ---- the summary, in two groups of fields
+-- ---- the summary, in four groups of fields
 
 abbrev pub first_totals : Totals → List (List Field)
 first_totals t =
-    always (codes "atomic") (yes_or_no t.atomic)
-    ∷ always (codes "back") (number_json t.back)
-    ∷ shown (codes "gap") number_json t.gap
+    always (codes "atomic") (yes_or_no t.atomic) ∷ always (codes "back") (number_json t.back) ∷ []
+
+abbrev pub second_totals : Totals → List (List Field)
+second_totals t =
+    shown (codes "gap") number_json t.gap
     ∷ always (codes "inverted") (number_json t.inverted)
     ∷ always (codes "lost") (number_json t.lost)
     ∷ shown (codes "monotonic") yes_or_no t.monotonic
@@ -154,7 +157,9 @@ last_totals t =
     ∷ []
 
 abbrev pub totals_parts : Totals → List (List Field)
-totals_parts t = fields_of (first_totals t) ∷ fields_of (last_totals t) ∷ []
+totals_parts t =
+    fields_of (first_totals t) ∷ fields_of (causal_parts t.causal) ∷ fields_of (second_totals t)
+    ∷ fields_of (last_totals t) ∷ []
 
 abbrev pub totals_json : Totals → Data
 totals_json t = object_json (totals_parts t)

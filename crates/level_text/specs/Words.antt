@@ -2,6 +2,8 @@
 use Rattle.std.specs.Prelude.{◌≡◌, ℕ, codes, List, Result, Ok, Err}
 use Rattle.level_text.specs.declared.level_name.UnknownLevel.{UnknownLevel}
 use Rattle.level_text.specs.declared.report.LevelName.{LevelName}
+use Rattle.level_text.specs.declared.report.Required.{Required}
+use Rattle.level_text.specs.declared.report.Required.TheVariants.{Each, Causal}
 use Rattle.level_text.specs.declared.report.LevelName.TheVariants.{Atomic, Regular, Session}
 use Rattle.level_text.specs.declared.report.LevelName.TheVariants.{OwnWrites, Monotonic, Sequential}
 
@@ -13,7 +15,12 @@ word_of OwnWrites = codes "own_writes"
 word_of Monotonic = codes "monotonic"
 word_of Sequential = codes "sequential"
 
--- what is read from a text: the level whose word it is, or that there is none
-abbrev pub IsLevelRead : List ℕ → Result LevelName UnknownLevel → Type 0
-IsLevelRead text (Ok level) = text ≡ word_of level
-IsLevelRead text (Err unknown) = (level : LevelName) → text ≡ word_of level → ⊥
+-- the word for what is required
+abbrev pub required_word : Required → List ℕ
+required_word (Each level) = word_of level
+required_word Causal = codes "causal"
+
+-- what is read from a text: what has this word, or that nothing has
+abbrev pub IsLevelRead : List ℕ → Result Required UnknownLevel → Type 0
+IsLevelRead text (Ok required) = text ≡ required_word required
+IsLevelRead text (Err unknown) = (required : Required) → text ≡ required_word required → ⊥

@@ -2,7 +2,7 @@
 ghost use Rattle.std.specs.Prelude.{◌≡◌};
 ghost use Rattle.level_text.specs.Words.{word_of, IsLevelRead};
 
-use crate::report::LevelName;
+use crate::report::{LevelName, Required};
 use std::str::FromStr;
 use thiserror::Error;
 
@@ -27,19 +27,20 @@ impl LevelName {
 #[error("no level has this name")]
 pub struct UnknownLevel;
 
-impl FromStr for LevelName {
+impl FromStr for Required {
     type Err = UnknownLevel;
 
     ghost from_str_gives = { IsLevelRead };
 
-    fn from_str(word: &str) -> Result<LevelName, UnknownLevel> {
+    fn from_str(word: &str) -> Result<Required, UnknownLevel> {
         match word {
-            "atomic" => Ok(LevelName::Atomic),
-            "regular" => Ok(LevelName::Regular),
-            "session" => Ok(LevelName::Session),
-            "own_writes" => Ok(LevelName::OwnWrites),
-            "monotonic" => Ok(LevelName::Monotonic),
-            "sequential" => Ok(LevelName::Sequential),
+            "atomic" => Ok(Required::Each(LevelName::Atomic)),
+            "regular" => Ok(Required::Each(LevelName::Regular)),
+            "session" => Ok(Required::Each(LevelName::Session)),
+            "own_writes" => Ok(Required::Each(LevelName::OwnWrites)),
+            "monotonic" => Ok(Required::Each(LevelName::Monotonic)),
+            "sequential" => Ok(Required::Each(LevelName::Sequential)),
+            "causal" => Ok(Required::Causal),
             _ => Err(UnknownLevel),
         }
     }

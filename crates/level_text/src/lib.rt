@@ -5,19 +5,22 @@
 //! told by the floor above.
 //!
 //! Read it in this order: `report`, the values; `level_name`, the words of levels; `objects`, the values that
-//! are objects themselves, and how they are sent to a serializer; `send`, the lines, field by field as
+//! are objects themselves, and how they are sent to a serializer; `causal`, what is said of the whole
+//! history; `send`, the lines, field by field as
 //! `json_fields` has it; `written`, the bytes.
 #![tactic(auto)]
 
+mod causal;
 mod level_name;
 mod objects;
 mod report;
 mod send;
 mod written;
 
+pub use causal::{CausalFaultLines, CausalLines, CausalVerdict, StepLines, StepReason};
 pub use level_name::UnknownLevel;
 pub use report::{
     CalledOperations, EarlyRead, FaultLines, Freshness, GapLines, KeptGuarantees, LevelName,
-    LevelsReport, MissedWrite, OrderLines, RegisterLevels, Totals, WentBack,
+    LevelsReport, MissedWrite, OrderLines, RegisterLevels, Required, Totals, WentBack,
 };
 pub use written::text;

@@ -1,5 +1,6 @@
 //! The report of a history's levels, as values. An operation is identified by the line of its call, from 1;
 //! the initial write has 0.
+use crate::causal::CausalLines;
 use history_text::Name;
 
 /// A level, by the word that reports and the command line have for it, the strongest first.
@@ -17,6 +18,15 @@ pub enum LevelName {
     Monotonic,
     /// A session sees its own operations in order, and all agree on one order of the writes.
     Sequential,
+}
+
+/// What a history may be required to keep.
+#[derive(Clone, Copy, Debug, PartialEq, Eq)]
+pub enum Required {
+    /// A level, of each register.
+    Each(LevelName),
+    /// One order of all writes, in which each read gives the last one of its register that it knows of.
+    Causal,
 }
 
 /// A read that gave an older value than that of a write which precedes it.
@@ -152,14 +162,15 @@ pub struct RegisterLevels {
     pub order: Option<OrderLines>,
 }
 
-/// The last line: what holds of all registers.
-#[derive(Clone, Copy, Debug)]
+/// The last line: what holds of all registers, and of the whole history.
+#[derive(Debug, Drop)]
 pub struct Totals {
     /// The number of operations: the calls that didn't fail.
     pub operations: u64,
     pub reads: u64,
     pub registers: u64,
     pub atomic: bool,
+    pub causal: CausalLines,
     pub regular: bool,
     pub session: bool,
     pub sequential: bool,

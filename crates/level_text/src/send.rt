@@ -4,9 +4,10 @@ ghost use Rattle.serde_json.specs.Events.{SendsValue};
 ghost use Rattle.json_fields.specs.Fields.{always, fields_of, number_json, numbers_json, shown};
 ghost use Rattle.json_fields.specs.Sends.{SendsFields, SendsParts};
 ghost use Rattle.level_text.specs.Text.{first_parts, first_totals, last_parts, last_totals, level_json};
-ghost use Rattle.level_text.specs.Text.{register_json, register_parts, second_parts, third_parts};
-ghost use Rattle.level_text.specs.Text.{totals_json, totals_parts};
+ghost use Rattle.level_text.specs.Text.{register_json, register_parts, second_parts, second_totals};
+ghost use Rattle.level_text.specs.Text.{third_parts, totals_json, totals_parts};
 
+use crate::causal::{causal_len, send_causal};
 use crate::objects::{
     send_number, show_early, show_fault, show_gap, show_missed, show_pairs, show_went_back,
     show_yes_or_no,
@@ -184,7 +185,8 @@ fn show_total<S: Serializer>(out: &mut S, key: &str, n: Option<u64>) -> Result<(
 fn totals_len(totals: &Totals) -> usize
     ensures { result ≡ length (fields_of (totals_parts totals.now)) }
 {
-    12 + one_if(totals.gap.is_some())
+    12 + causal_len(&totals.causal)
+        + one_if(totals.gap.is_some())
         + one_if(totals.monotonic.is_some())
         + one_if(totals.own_writes.is_some())
         + one_if(totals.unclean.is_some())
@@ -194,7 +196,12 @@ fn send_first_totals<S: Serializer>(out: &mut S, totals: &Totals) -> Result<(), 
     ensures { OnOk result (SendsParts (first_totals totals.now) (S.written out.old) (S.written out.new)) }
 {
     send_yes_or_no(out, "atomic", totals.atomic)?;
-    send_total(out, "back", totals.back)?;
+    send_total(out, "back", totals.back)
+}
+
+fn send_second_totals<S: Serializer>(out: &mut S, totals: &Totals) -> Result<(), S::Error>
+    ensures { OnOk result (SendsParts (second_totals totals.now) (S.written out.old) (S.written out.new)) }
+{
     show_total(out, "gap", totals.gap)?;
     send_total(out, "inverted", totals.inverted)?;
     send_total(out, "lost", totals.lost)?;
@@ -220,6 +227,8 @@ fn send_totals_parts<S: Serializer>(out: &mut S, totals: &Totals) -> Result<(), 
     ensures { OnOk result (SendsParts (totals_parts totals.now) (S.written out.old) (S.written out.new)) }
 {
     send_first_totals(out, totals)?;
+    send_causal(out, &totals.causal)?;
+    send_second_totals(out, totals)?;
     send_last_totals(out, totals)
 }
 

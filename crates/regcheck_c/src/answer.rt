@@ -20,7 +20,7 @@ pub const NO_MEMORY: u32 = 4;
 /// The report is longer than `out`.
 pub const TOO_SMALL: u32 = 5;
 
-/// A search gave up within its bounds, and `out` has the report, which says at which bound.
+/// It was left undecided within the bounds, and `out` has the report.
 pub const UNKNOWN: u32 = 6;
 
 /// What a call says of its input; in C it is `regcheck_answer`.

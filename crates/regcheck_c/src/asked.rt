@@ -2,19 +2,20 @@
 ghost use Rattle.std.specs.Prelude.{◌≡◌};
 ghost use Rattle.regcheck_c.specs.Leveling.{addition_of, level_of};
 
-use level_report::{Asked, LevelName};
+use level_report::{Asked, LevelName, Required};
 
-const LEVELS: [LevelName; 6] = [
-    LevelName::Atomic,
-    LevelName::Regular,
-    LevelName::Session,
-    LevelName::OwnWrites,
-    LevelName::Monotonic,
-    LevelName::Sequential,
+const LEVELS: [Required; 7] = [
+    Required::Each(LevelName::Atomic),
+    Required::Each(LevelName::Regular),
+    Required::Each(LevelName::Session),
+    Required::Each(LevelName::OwnWrites),
+    Required::Each(LevelName::Monotonic),
+    Required::Each(LevelName::Sequential),
+    Required::Causal,
 ];
 
-/// The level of this number, from 0.
-pub(crate) fn level(number: u32) -> Option<LevelName>
+/// What is required by this number, from 0.
+pub(crate) fn level(number: u32) -> Option<Required>
     ensures { result ≡ level_of number }
 {
     LEVELS.get(number as usize).copied()

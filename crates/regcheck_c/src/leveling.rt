@@ -3,7 +3,7 @@ ghost use Rattle.std.specs.Prelude.{◌≡◌};
 ghost use Rattle.regcheck_c.specs.Leveling.{IsAnswered, IsAnsweredFor, TellsLevel, TellsOf};
 ghost use Rattle.regcheck_c.specs.Leveling.{status_of_outcome};
 
-use crate::answer::{Answer, NO, YES, not_understood, refused};
+use crate::answer::{Answer, NO, UNKNOWN, YES, not_understood, refused};
 use crate::asked::{asked, level};
 use crate::place::put_report;
 use level_report::{Outcome, Settings, check_alone};
@@ -16,6 +16,7 @@ fn status_of(outcome: Outcome) -> u32
     match outcome {
         Outcome::Kept => YES,
         Outcome::Broken => NO,
+        Outcome::Unknown => UNKNOWN,
     }
 }
 
@@ -32,7 +33,8 @@ fn answered(alloc: Global, input: &[u8], settings: Settings, out: &mut [u8]) -> 
 
 /// Checks the history in the input against a level, puts its report at the beginning of `out`, and says in
 /// `answer` what came of it: `YES` if the level holds of each register. The levels are numbered from 0:
-/// atomic, regular, session, own writes, monotonic, sequential. In `more`, 1 asks for each stale read with
+/// atomic, regular, session, own writes, monotonic, sequential; and 6 is causal, of the whole history, which
+/// alone may be `UNKNOWN`. In `more`, 1 asks for each stale read with
 /// the write that it missed, and 2 for an order. `out` stays as it was if there is no report, or no room for
 /// all of it.
 #[unsafe(no_mangle)]
@@ -48,7 +50,7 @@ pub extern "C" fn reglevel_report(
     // ran out, or a number stands for nothing.
     ensures answered { IsAnswered input.now required more out.old out.new answer.new }
 
-    // A status of 0 or 1 says whether the level holds of that history.
+    // A status of 0 or 1 says whether the level holds of that history, and 6 that it was left undecided.
     ensures level { TellsLevel input.now required answer.new.status }
 {
     *answer = match (level(required), asked(more)) {

@@ -63,16 +63,16 @@ const STALE_READ: &str = r#"{"process":1,"event":"call","op":"write","register":
 
 const LEVELS: &str =
     r#"{"atomic":"no","back":0,"gap":{"events":1,"first":[0,1],"second":[1,3],"writes":[0,1]},"inverted":0,"lost":1,"lost_write":1,"own":0,"pending":0,"reads":1,"register":"x","regular":"no","sequential":"yes","session":"yes","stale":1,"stale_read":{"newer":1,"read":3,"seen":0},"writes":1}
-{"atomic":"no","back":0,"gap":1,"inverted":0,"lost":1,"operations":2,"own":0,"reads":1,"registers":1,"regular":"no","sequential":"yes","session":"yes","stale":1}
+{"atomic":"no","back":0,"causal":"yes","gap":1,"inverted":0,"lost":1,"operations":2,"own":0,"reads":1,"registers":1,"regular":"no","sequential":"yes","session":"yes","stale":1}
 "#;
 
 const LEVELS_AND_MORE: &str =
     r#"{"atomic":"no","back":0,"gap":{"events":1,"first":[0,1],"second":[1,3],"writes":[0,1]},"inverted":0,"lost":1,"lost_write":1,"order":[3,1],"order_of":"session","own":0,"pending":0,"reads":1,"register":"x","regular":"no","sequential":"yes","session":"yes","stale":1,"stale_read":{"newer":1,"read":3,"seen":0},"stale_reads":[[3,1]],"writes":1}
-{"atomic":"no","back":0,"gap":1,"inverted":0,"lost":1,"operations":2,"own":0,"reads":1,"registers":1,"regular":"no","sequential":"yes","session":"yes","stale":1}
+{"atomic":"no","back":0,"causal":"yes","causal_order":[1],"gap":1,"inverted":0,"lost":1,"operations":2,"own":0,"reads":1,"registers":1,"regular":"no","sequential":"yes","session":"yes","stale":1}
 "#;
 
 // A call, its history, and the status, number, line, other line and report of its answer.
-const ANSWERS: [(Call, &str, u32, u32, u32, u32, &str); 23] = [
+const ANSWERS: [(Call, &str, u32, u32, u32, u32, &str); 24] = [
     (Call::Check, WRITE_AND_READ, YES, 0, 0, 0, CHECKED),
     (
         Call::Check,
@@ -204,10 +204,11 @@ const ANSWERS: [(Call, &str, u32, u32, u32, u32, &str); 23] = [
     (Call::Level(1, 0), STALE_READ, NO, 0, 0, 0, LEVELS),
     (Call::Level(2, 0), STALE_READ, YES, 0, 0, 0, LEVELS),
     (Call::Level(5, 3), STALE_READ, YES, 0, 0, 0, LEVELS_AND_MORE),
-    (Call::Level(6, 0), STALE_READ, BAD_NUMBER, 0, 0, 0, ""),
+    (Call::Level(6, 0), STALE_READ, YES, 0, 0, 0, LEVELS),
+    (Call::Level(7, 0), STALE_READ, BAD_NUMBER, 0, 0, 0, ""),
     (Call::Level(0, 4), STALE_READ, BAD_NUMBER, 0, 0, 0, ""),
     (Call::Level(0, 0), "\n[]\n", REFUSED, 3, 2, 0, ""),
-    (Call::Level(6, 0), "\n[]\n", BAD_NUMBER, 0, 0, 0, ""),
+    (Call::Level(7, 0), "\n[]\n", BAD_NUMBER, 0, 0, 0, ""),
 ];
 
 /// What the call says, and puts into `out`.

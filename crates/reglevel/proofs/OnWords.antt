@@ -4,15 +4,16 @@ use Rattle.clap.specs.Words.{fault_of}
 use Rattle.clap.specs.declared.error.kind.ErrorKind.TheVariants.{DisplayHelp, DisplayVersion}
 use Rattle.clap.proofs.OnLiterals.{clap_on_literals}
 use Rattle.command_words.specs.Words.{IsTaken, file_named, number_named, text_given}
-use Rattle.level_text.specs.Words.{word_of}
+use Rattle.level_text.specs.Words.{required_word}
 use Rattle.level_text.specs.declared.report.LevelName.TheVariants.{Atomic, OwnWrites}
+use Rattle.level_text.specs.declared.report.Required.TheVariants.{Each, Causal}
 use Rattle.reglevel.specs.Words.{all_levels, command_line, AreLevelWords, Borrowed}
 
 -- the words of the levels, wherever they stand
 levels : Borrowed
 levels = record {
   ref_ptr = (0, 0);
-  now = map (λ level. record { ref_ptr = (0, 0); now = word_of level }) all_levels;
+  now = map (λ level. record { ref_ptr = (0, 0); now = required_word level }) all_levels;
 }
 
 are_levels : AreLevelWords levels
@@ -22,7 +23,7 @@ are_levels = refl
 -- where no word says otherwise, the history comes from standard input, atomic is required, and there are 4
 -- workers
 defaults : IsTaken (command_line levels) [] × (file_named (command_line levels) [] ≡ None)
-    × (text_given (command_line levels) (codes "require") [] ≡ Some (word_of Atomic))
+    × (text_given (command_line levels) (codes "require") [] ≡ Some (required_word (Each Atomic)))
     × (number_named (command_line levels) (codes "workers") [] ≡ Some 4)
 unfolding clap_on_literals levels IsTaken file_named text_given number_named
 defaults = (refl, refl, refl, refl)
@@ -41,18 +42,24 @@ dash = (refl, refl)
 -- a level, in two words and in one
 level_given : let words = codes "--require" ∷ codes "own_writes" ∷ codes "h.jsonl" ∷ [] in
     IsTaken (command_line levels) words
-    × (text_given (command_line levels) (codes "require") words ≡ Some (word_of OwnWrites))
+    × (text_given (command_line levels) (codes "require") words ≡ Some (required_word (Each OwnWrites)))
     × (file_named (command_line levels) words ≡ Some (codes "h.jsonl"))
 unfolding clap_on_literals levels IsTaken text_given file_named
 level_given = (refl, refl, refl)
 
 level_after_a_sign : let words = codes "--require=own_writes" ∷ [] in
-    text_given (command_line levels) (codes "require") words ≡ Some (word_of OwnWrites)
+    text_given (command_line levels) (codes "require") words ≡ Some (required_word (Each OwnWrites))
 unfolding clap_on_literals levels text_given
 level_after_a_sign = refl
 
--- no level has this name, nor one in capitals
-unknown_level : length (fault_of (command_line levels) (codes "--require" ∷ codes "causal" ∷ [])) ≡ 1
+-- causal, which is no level of a register
+causal_given : text_given (command_line levels) (codes "require") (codes "--require" ∷ codes "causal" ∷ [])
+    ≡ Some (required_word Causal)
+unfolding clap_on_literals levels text_given
+causal_given = refl
+
+-- nothing has this name, nor one in capitals
+unknown_level : length (fault_of (command_line levels) (codes "--require" ∷ codes "safe" ∷ [])) ≡ 1
 unfolding clap_on_literals levels
 unknown_level = refl
 

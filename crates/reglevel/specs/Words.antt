@@ -5,8 +5,9 @@ use Rattle.clap.specs.Words.{App, Rule, Text, with_rule}
 use Rattle.clap.specs.declared.builder.value_parser.ValueParser.TheVariants.{Names}
 use Rattle.command_words.specs.Words.{file_rule, flag_rule, option_rule, program, up_to}
 use Rattle.level_report.specs.declared.settings.TheConstants.{MAX_WORKERS}
-use Rattle.level_text.specs.Words.{word_of}
-use Rattle.level_text.specs.declared.report.LevelName.{LevelName}
+use Rattle.level_text.specs.Words.{required_word}
+use Rattle.level_text.specs.declared.report.Required.{Required}
+use Rattle.level_text.specs.declared.report.Required.TheVariants.{Each, Causal}
 use Rattle.level_text.specs.declared.report.LevelName.TheVariants.{Atomic, Regular, Session}
 use Rattle.level_text.specs.declared.report.LevelName.TheVariants.{OwnWrites, Monotonic, Sequential}
 
@@ -14,14 +15,17 @@ use Rattle.level_text.specs.declared.report.LevelName.TheVariants.{OwnWrites, Mo
 abbrev pub Borrowed : Type 0
 Borrowed = Bor (List (Bor Text))
 
-abbrev pub all_levels : List LevelName
-all_levels = Atomic ∷ Regular ∷ Session ∷ OwnWrites ∷ Monotonic ∷ Sequential ∷ []
+-- all that may be required
+abbrev pub all_levels : List Required
+all_levels =
+    Each Atomic ∷ Each Regular ∷ Each Session ∷ Each OwnWrites ∷ Each Monotonic ∷ Each Sequential ∷ Causal
+    ∷ []
 
--- the words of all levels
+-- the words for it
 abbrev pub AreLevelWords : Borrowed → Type 0
-AreLevelWords words = map (λ (word : Bor Text). word.now) words.now ≡ map word_of all_levels
+AreLevelWords words = map (λ (word : Bor Text). word.now) words.now ≡ map required_word all_levels
 
--- the level that each register has to keep, atomic by default
+-- what has to be kept, atomic by default
 abbrev pub require_rule : Borrowed → Rule
 require_rule levels = option_rule (codes "require") (Names levels) (codes "atomic")
 

@@ -13,5 +13,6 @@ pub(crate) fn ending_of(outcome: Outcome) -> Ended
     match outcome {
         Outcome::Kept => Ended::Yes,
         Outcome::Broken => Ended::No,
+        Outcome::Unknown => Ended::Unknown,
     }
 }

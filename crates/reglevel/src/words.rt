@@ -4,13 +4,13 @@ ghost use Rattle.clap.specs.Words.{app_of};
 ghost use Rattle.command_words.specs.Words.{file_named, number_named, program, text_given};
 ghost use Rattle.command_words.specs.Words.{IsFaultless, IsFlag, IsTaken};
 ghost use Rattle.level_report.specs.declared.settings.TheConstants.{MAX_WORKERS};
-ghost use Rattle.level_text.specs.Words.{word_of};
+ghost use Rattle.level_text.specs.Words.{required_word};
 ghost use Rattle.reglevel.specs.Words.{command_line, AreLevelWords};
 
 use clap::Command;
 use clap::builder::ValueParser;
 use command_words::{WordsFault, file, file_in, flag, option, read, up_to};
-use level_report::{Asked, LevelName, MAX_WORKERS, Settings};
+use level_report::{Asked, MAX_WORKERS, Required, Settings};
 use std::alloc::{AllocError, Global};
 
 const ABOUT: &str =
@@ -18,29 +18,33 @@ const ABOUT: &str =
 
 const VERSION: &str = "1.2.0 (rattle logic dac8208d650f15bf)";
 
-const REQUIRE: &str = "The level that each register has to keep for the exit status to be 0";
+const REQUIRE: &str =
+    "What has to hold for the exit status to be 0: a level of each register, or causal of the whole";
 
 const WORKERS: &str = "Workers, 1 to 16; the report is the same with any number";
 
 const STALE: &str = "Lists each stale read with the missed write that ended first";
 
-const ORDERS: &str = "Gives an order for the strongest level that a register kept";
+const ORDERS: &str =
+    "Gives an order for the strongest level that a register kept, and a causal order of all writes";
 
 const STATUSES: &str = "The report goes to standard output. Exit status:
-  0  each register kept the level that is required
-  1  some register didn't
+  0  each register kept the level that is required, or the history is causal
+  1  some register didn't, or it isn't
   2  the history is refused: it isn't well formed, or too long
   3  the command line is refused, or it asked for this help or the version
-  4  the history couldn't be read, the report couldn't be written, or memory or a thread was refused";
+  4  the history couldn't be read, the report couldn't be written, or memory or a thread was refused
+  6  causal is required, and wasn't decided: the history has too many sessions";
 
-/// The levels that `--require` takes.
-pub const LEVELS: [&str; 6] = [
+/// What `--require` takes.
+pub const LEVELS: [&str; 7] = [
     "atomic",
     "regular",
     "session",
     "own_writes",
     "monotonic",
     "sequential",
+    "causal",
 ];
 
 /// What the words ask for.
@@ -87,7 +91,7 @@ pub fn read_words(alloc: Global, levels: &[&str], words: &[String]) -> Result<Wo
     requires { AreLevelWords levels }
     ensures file { IfOk result (λ read. option_map string_bytes read.file
         ≡ file_named (command_line levels.entry) (map string_bytes words.now)) }
-    ensures required { IfOk result (λ read. Some (word_of read.settings.required)
+    ensures required { IfOk result (λ read. Some (required_word read.settings.required)
         ≡ text_given (command_line levels.entry) (codes "require") (map string_bytes words.now)) }
     ensures workers { IfOk result (λ read. Some read.settings.workers
         ≡ number_named (command_line levels.entry) (codes "workers") (map string_bytes words.now)) }
@@ -103,7 +107,7 @@ pub fn read_words(alloc: Global, levels: &[&str], words: &[String]) -> Result<Wo
         → fault ≡ WordsFault.Memory) }
 {
     let matches = read(alloc, command(alloc, levels)?, words)?;
-    let required: LevelName = matches.get_one("require").unwrap();
+    let required: Required = matches.get_one("require").unwrap();
     let workers = matches.get_one("workers").unwrap();
     let asked = Asked {
         stale: matches.get_flag("stale"),

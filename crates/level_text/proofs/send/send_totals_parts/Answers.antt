@@ -1,7 +1,8 @@
 use Rattle.std.proofs.Common.{refl}
 use Rattle.std.proofs.lemmas.Result.{on_ok_weaker}
 use Rattle.json_fields.proofs.Fields.{sends_parts}
-use Rattle.level_text.specs.Text.{first_totals, last_totals}
+use Rattle.level_text.specs.Causal.{causal_parts}
+use Rattle.level_text.specs.Text.{first_totals, last_totals, second_totals}
 use Rattle.level_text.proofs.send.send_totals_parts.Goals as goal
 
 pub returns : goal.returns
@@ -13,8 +14,19 @@ returns g c =
       sends_parts (first_totals totals) (at c.args.out.now) (at c.send_first_totals.new.out)
           c.in_ok-send_first_totals.ensures,
       (
-        at c.send_last_totals.new.out,
-        sends_parts (last_totals totals) (at c.send_first_totals.new.out) (at c.send_last_totals.new.out) e,
-        refl,
+        at c.send_causal.new.out,
+        sends_parts (causal_parts totals.causal) (at c.send_first_totals.new.out) (at c.send_causal.new.out)
+            c.in_ok-send_causal.ensures,
+        (
+          at c.send_second_totals.new.out,
+          sends_parts (second_totals totals) (at c.send_causal.new.out) (at c.send_second_totals.new.out)
+              c.in_ok-send_second_totals.ensures,
+          (
+            at c.send_last_totals.new.out,
+            sends_parts (last_totals totals) (at c.send_second_totals.new.out)
+                (at c.send_last_totals.new.out) e,
+            refl,
+          ),
+        ),
       ),
     )) c.send_last_totals.ensures

@@ -1,23 +1,37 @@
 use Rattle.std.proofs.Common.{◌≡◌, ℕ, Bool, List, true, false, if◌then◌else◌, ap, arith, inl, subst, sym}
-use Rattle.level_text.specs.declared.report.LevelName.{LevelName}
+use Rattle.level_text.specs.declared.report.Required.{Required}
 use Rattle.level_report.specs.Answer.{IsAnswerText, IsOutcome}
 use Rattle.level_report.specs.declared.outcome.Outcome.{Outcome}
-use Rattle.level_report.specs.declared.outcome.Outcome.TheVariants.{Kept, Broken}
+use Rattle.level_report.specs.declared.outcome.Outcome.TheVariants.{Kept, Broken, Unknown}
 use Rattle.regcheck_c.specs.Called.{IsPut}
 use Rattle.regcheck_c.specs.Leveling.{status_of_outcome, TellsOf}
 use Rattle.regcheck_c.specs.declared.answer.Answer.{Answer}
 use Rattle.regcheck_c.proofs.leveling.answered.Goals as goal
 
--- a status of 0 or 1 is that of the outcome, if there was room
-tells : (level : LevelName) (input : List ℕ) (outcome : Outcome) (room : Bool) (status : ℕ)
+-- a status of 0, 1 or 6 is that of the outcome, if there was room
+tells : (level : Required) (input : List ℕ) (outcome : Outcome) (room : Bool) (status : ℕ)
     → IsOutcome level input outcome → status ≡ (if room then status_of_outcome outcome else 5)
     → TellsOf level input status
-tells level input Kept true status is e =
-    record { kept = λ _. is; broken = λ q. absurd (omega (arith, q, e)) }
-tells level input Broken true status is e =
-    record { kept = λ q. absurd (omega (arith, q, e)); broken = λ _. is }
-tells level input outcome false status is e =
-    record { kept = λ q. absurd (omega (arith, q, e)); broken = λ q. absurd (omega (arith, q, e)) }
+tells level input Kept true status is e = record {
+  kept = λ _. is;
+  broken = λ q. absurd (omega (arith, q, e));
+  unknown = λ q. absurd (omega (arith, q, e));
+}
+tells level input Broken true status is e = record {
+  kept = λ q. absurd (omega (arith, q, e));
+  broken = λ _. is;
+  unknown = λ q. absurd (omega (arith, q, e));
+}
+tells level input Unknown true status is e = record {
+  kept = λ q. absurd (omega (arith, q, e));
+  broken = λ q. absurd (omega (arith, q, e));
+  unknown = λ _. is;
+}
+tells level input outcome false status is e = record {
+  kept = λ q. absurd (omega (arith, q, e));
+  broken = λ q. absurd (omega (arith, q, e));
+  unknown = λ q. absurd (omega (arith, q, e));
+}
 
 pub returns-in-Ok-clause-answered : goal.returns-in-Ok-clause-answered
 returns-in-Ok-clause-answered c =

@@ -10,15 +10,15 @@ use Rattle.command_words.specs.Words.{text_given, IsFaultless, IsTaken}
 use Rattle.command_words.proofs.Found.{file_found, text_named}
 use Rattle.command_words.proofs.Numbers.{signed_is, signed_is_some}
 use Rattle.level_report.specs.declared.settings.Settings.{Settings}
-use Rattle.level_text.specs.Words.{word_of, IsLevelRead}
-use Rattle.level_text.specs.declared.report.LevelName.{LevelName}
+use Rattle.level_text.specs.Words.{required_word, IsLevelRead}
+use Rattle.level_text.specs.declared.report.Required.{Required}
 use Rattle.reglevel.specs.Words.{command_line}
 use Rattle.reglevel.proofs.Named.{level_named}
 use Rattle.reglevel.proofs.Numbers.{require_found, workers_found}
 use Rattle.reglevel.proofs.words.read_words.Goals as goal
 
 -- a level is read where the text is that of one
-some_level : (text : _) (level : LevelName) → text ≡ word_of level → (r : Option LevelName)
+some_level : (text : _) (level : Required) → text ≡ required_word level → (r : Option Required)
     → ReadsOne IsLevelRead text r → IsSome r
 some_level text level is (Some l) reads = refl
 some_level text level is None reads = absurd (reads.1 level is)
@@ -80,7 +80,8 @@ returns-clause-required c =
     (codes "require") in
     let level = subst (ReadsOne IsLevelRead has.text) c.unwrap-required.ensures
     (c.get_one.ensures.value has.text has.found_text) in
-    ap (λ (s : Settings). Some (word_of s.required)) is ∙ ap Some (sym level) ∙ sym has.found_text ∙ given
+    ap (λ (s : Settings). Some (required_word s.required)) is ∙ ap Some (sym level) ∙ sym has.found_text
+    ∙ given
 
 pub returns-clause-workers : goal.returns-clause-workers
 returns-clause-workers c =

@@ -1,0 +1,5 @@
+pub mod Whole
+pub mod Knowing
+pub mod Refuted
+pub mod FromSequential
+pub mod Registers

@@ -1,0 +1,16 @@
+pub mod Joining
+pub mod Places
+pub mod Forward
+pub mod Behind
+pub mod Meeting
+pub mod Stepping
+pub mod Covers
+pub mod Walking
+pub mod Reading
+pub mod Sifting
+pub mod Learning
+pub mod Placing
+pub mod Testing
+pub mod Keeping
+pub mod Ordering
+pub mod Answering

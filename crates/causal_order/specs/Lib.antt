@@ -1,0 +1,6 @@
+pub mod CausalGraph
+pub mod Decisions
+pub mod Ways
+pub mod Covering
+pub mod Walks
+pub mod CausalOrders

@@ -1,0 +1,12 @@
+pub mod Ordered
+pub mod Learned
+pub mod Held
+pub mod Raised
+pub mod Taking
+pub mod Giving
+pub mod Turned
+pub mod Numbered
+pub mod Latest
+pub mod Valued
+pub mod Indexed
+pub mod Tables
