@@ -21,7 +21,10 @@ const path = require("node:path");
 const NAME_BYTES = 255;
 const [LEAST, GREATEST] = [-(2n ** 63n), 2n ** 63n - 1n];
 const [ATOMIC, NOT_ATOMIC, REFUSED, GAVE_UP] = [0, 1, 2, 6]; // exit statuses of the programs
-const LEVELS = ["atomic", "regular", "session", "own_writes", "monotonic", "sequential"];
+const CAUSAL = "causal"; // of all registers together
+const LEVELS = ["atomic", "regular", "session", "own_writes", "monotonic", "sequential", CAUSAL];
+const UNKNOWN = "causal is unknown: deciding it would take more memory or work than reglevel spends. It is "
+  + "decided for fewer sessions, or a shorter run";
 const VERDICTS = { [ATOMIC]: "yes", [NOT_ATOMIC]: "no", [GAVE_UP]: "unknown" };
 
 /**
@@ -292,10 +295,10 @@ class Recorder {
 
   /**
    * Throws unless each register of the history keeps the level, a read was completed, and the recorder was
-   * used rightly. The level is "atomic", "regular", "session", "own_writes", "monotonic" or "sequential". It
-   * says why in the words of `regkit levels`, and leaves the history, the report of reglevel and a page as
-   * assertLinearizable does. The page shows why the history isn't linearizable. checkLevel says which
-   * histories have an answer.
+   * used rightly. The level is "atomic", "regular", "session", "own_writes", "monotonic" or "sequential"; or
+   * "causal", which is of all registers together. It says why in the words of `regkit levels`, and leaves the
+   * history, the report of reglevel and a page as assertLinearizable does. The page shows why the history
+   * isn't linearizable. checkLevel says which histories have an answer.
    */
   assertLevel(test, level) {
     assertHolds(this, test, levelKept(level));
@@ -393,7 +396,8 @@ function check(history, bounds = {}) {
 /**
  * Whether each register of a history keeps a level, `kept`, and the report. It runs reglevel, which takes
  * reads and writes, each value written once to a register. Throws NotChecked, in the words of the program, if
- * there is no answer, and RangeError if there is no such level.
+ * there is no answer, or if reglevel gave up, as it may do on "causal"; and RangeError if there is no such
+ * level.
  */
 function checkLevel(history, level) {
   if (!LEVELS.includes(level)) {
@@ -402,6 +406,7 @@ function checkLevel(history, level) {
   const program = mustFind("REGLEVEL", "reglevel");
   const { status, output, words } = run(program, ["--stale", "--require", level], history);
   if (status === ATOMIC || status === NOT_ATOMIC) return { level, kept: status === ATOMIC, report: output };
+  if (status === GAVE_UP) throw new NotChecked(UNKNOWN);
   throw new NotChecked(status === REFUSED ? `${words}; reglevel takes reads and writes of distinct values`
     : `${program} ended with status ${status}: ${words}`);
 }
@@ -559,10 +564,10 @@ function draw(files, report, given) {
   }
 }
 
-/** The lines of the report whose registers lack the level. */
+/** The lines of the report whose registers lack the level. Of "causal" it is the last line. */
 function lacking({ level, report }) {
-  const lines = report.split("\n")
-    .filter((line) => line.includes('"register":') && line.includes(`"${level}":"no"`));
+  const lines = report.split("\n").filter((line) => line.includes(`"${level}":"no"`)
+    && (level === CAUSAL || line.includes('"register":')));
   return [`doesn't keep ${level}`, ...lines.map((line) => `  ${line}`)].join("\n");
 }
 

@@ -59,8 +59,9 @@ export interface Options {
   bounds?: Bounds;
 }
 
-/** A guarantee that a store may give of each of its keys. docs/levels.md explains them. */
-export type Level = "atomic" | "regular" | "session" | "own_writes" | "monotonic" | "sequential";
+/** A guarantee that a store may give of each of its keys, or, as "causal", of all of them together.
+ * docs/levels.md explains them. */
+export type Level = "atomic" | "regular" | "session" | "own_writes" | "monotonic" | "sequential" | "causal";
 
 /** A history in the making. */
 export class Recorder {

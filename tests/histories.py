@@ -78,7 +78,7 @@ class Store:
         register = self.chance.choice(self.registers)
         line: Line = {"process": process, "event": "call", "op": "read", "register": register}
         write = None
-        if self.chance.random() < 0.45 and (process == 1 or not self.single):
+        if self.writes(process):
             self.written[register] += 1
             line["op"], write = "write", self.written[register]
             line["value"] = write
@@ -86,6 +86,10 @@ class Store:
             line["value"] = None
         self.open[process] = Call(line, write)
         self.lines.append(line)
+
+    def writes(self, process: int) -> bool:
+        """Whether its next call is a write."""
+        return self.chance.random() < 0.45 and (process == 1 or not self.single)
 
     def end(self, process: int) -> None:
         call = self.open.pop(process)

@@ -1,11 +1,11 @@
-"""What the levels of a register mean, its old reads, its lost writes and its gap, by their definitions alone:
+"""What the levels mean, the old reads, lost writes and the gap of a register, by their definitions alone:
 orders are found by trying all, and all else by looking at every pair.
 
 The operations are those of tests/reference.py: a register's `writes` begin with the initial one, its `reads`
-are completed, and times count events. A level is what a legal order has to keep: which of two operations must
-come before the other.
+are completed, and times count events. A level of a register is what a legal order has to keep: which of two
+operations must come before the other. `causal` is of all registers together.
 """
-from typing import Callable, Dict, List, NamedTuple, Optional, Sequence, Set, Tuple
+from typing import Callable, Dict, FrozenSet, List, NamedTuple, Optional, Sequence, Set, Tuple
 
 from reference import Operation, Register, precedes
 
@@ -211,3 +211,102 @@ def links(register: Register, must: Must, v: Operation, w: Operation) -> List[Tu
     if v == w:
         return []
     return [(a, b) for a in cluster(register, v.value) for b in cluster(register, w.value) if must(a, b)]
+
+
+# ---- causal, of all operations: those of each register with its initial write
+
+
+def is_source(w: Operation, r: Operation) -> bool:
+    """Whether a completed read gives the value that the write wrote to its register."""
+    is_read = not is_write(r) and not r.pending
+    return is_write(w) and is_read and (w.register, w.value) == (r.register, r.value)
+
+
+def learns(a: Operation, b: Operation) -> bool:
+    """Whether b learns of a at once: a comes first in its session, or b gives the value that a wrote."""
+    return comes_first(a, b) or is_source(a, b)
+
+
+class Known:
+    """The operations of a history, and which know of which: of all that they learn of at once, and of what
+    that knows."""
+
+    def __init__(self, operations: Sequence[Operation]) -> None:
+        self.operations = list(operations)
+        self.known_by = {b: frozenset(a for a in operations if learns(a, b)) for b in operations}
+        while True:
+            more = {b: known.union(*(self.known_by[a] for a in known)) for b, known in self.known_by.items()}
+            if more == self.known_by:
+                break
+            self.known_by = more
+        self.reads = [r for r in operations if not is_write(r) and not r.pending]
+        self.writes = [w for w in operations if is_write(w)]
+        self.kept = [w for w in self.writes if not w.pending or any(is_source(w, r) for r in self.reads)]
+
+    def writes_known_by(self, r: Operation) -> FrozenSet[Operation]:
+        """The writes of the register of r that r knows of."""
+        return frozenset(w for w in self.known_by[r] if is_write(w) and w.register == r.register)
+
+    def unwritten(self) -> List[Operation]:
+        return [r for r in self.reads if not any(is_source(w, r) for w in self.writes)]
+
+
+def causal_order(known: Known) -> Optional[List[Operation]]:
+    """The kept writes, each behind those that it knows of, so that of the writes of its register that a read
+    knows of, that of its value stands last."""
+    if known.unwritten():
+        return None
+    before = {w: set(known.known_by[w]) & set(known.kept) for w in known.kept}
+    for r in known.reads:
+        for w in filter(lambda w: is_source(w, r), known.kept):
+            before[w] |= known.writes_known_by(r) - {w}
+    tried: Set[FrozenSet[Operation]] = set()
+
+    def rest(done: FrozenSet[Operation]) -> Optional[List[Operation]]:
+        if len(done) == len(known.kept):
+            return []
+        tried.add(done)
+        for w in known.kept:
+            if w not in done and before[w] <= done and done | {w} not in tried:
+                found = rest(done | {w})
+                if found is not None:
+                    return [w, *found]
+        return None
+
+    return rest(frozenset())
+
+
+def why_not_causal(known: Known, order: Sequence[Operation]) -> Optional[str]:
+    """None if this is an order as above."""
+    if len(set(order)) != len(order) or set(order) != set(known.kept):
+        return "it hasn't each kept write once"
+    for at, w in enumerate(order):
+        for v in order[at:]:
+            if v in known.known_by[w]:
+                return f"line {w.line} knows of line {v.line}, which doesn't stand before it"
+    for r in known.reads:
+        last = [w for w in order if w in known.writes_known_by(r)][-1:]
+        if not last or not is_source(last[0], r):
+            return f"line {r.line} doesn't give the last write that it knows of"
+    return None
+
+
+# ---- the steps of a cycle that rules out each such order
+
+
+def is_process_step(a: Operation, b: Operation) -> bool:
+    return a.process is not None and comes_first(a, b)
+
+
+def is_initial_step(a: Operation, b: Operation) -> bool:
+    return a.process is None and comes_first(a, b)
+
+
+def is_hidden_by(known: Known, a: Operation, b: Operation, r: Operation) -> bool:
+    """Whether r gives the value of b although it knows of a, another write of its register."""
+    return a != b and is_source(b, r) and a in known.writes_known_by(r)
+
+
+def is_way(way: Sequence[Operation]) -> bool:
+    """Whether each operation learns of the one before it, and there are two or more."""
+    return len(way) > 1 and all(learns(a, b) for a, b in zip(way, way[1:]))

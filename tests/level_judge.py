@@ -9,23 +9,24 @@ Options of the program, such as `--require session`, may follow the history or t
 Lines are read and refused as in tests/reference.py, which also has the operations. Everything that is
 determined of a report has to be as it is in the judge's own. Of the rest, each claim has to be true: an order
 is legal and keeps its level, each step of a cycle is one that the level asks for, and so is each half of the
-conflict that shows a gap. All orders of a register are tried, so it should have few operations. `-` is
-standard input.
+conflict that shows a gap. All orders are tried, so there should be few operations. `-` is standard input.
 """
 import argparse
+import collections
 import itertools
 import sys
-from typing import Any, Dict, Iterator, List, NamedTuple, Optional, Sequence, Tuple
+from typing import Any, Deque, Dict, Iterator, List, NamedTuple, Optional, Sequence, Tuple
 
 import judging
 import level_definitions as levels
 import reference
 from judging import Ended, Row, Wrong, compare, rows_in, wrong
-from level_definitions import MUST, Must, OldAfter
+from level_definitions import MUST, Known, Must, OldAfter
 from reference import Operation, Register
 
 OPTIONS = reference.Options()
-LEVELS = ["atomic", "regular", "session", "own_writes", "monotonic", "sequential"]
+LEVELS = ["atomic", "regular", "session", "own_writes", "monotonic", "sequential"]  # of a register
+REQUIRED = [*LEVELS, "causal"]
 TOLD_ALWAYS = ["atomic", "regular", "session", "sequential"]
 HALVES = ["own_writes", "monotonic"]  # of the session
 COUNTS = [*levels.KINDS, "lost"]
@@ -41,7 +42,7 @@ class Asked(NamedTuple):
 
 def asked_by(options: Sequence[str]) -> Asked:
     parser = argparse.ArgumentParser(allow_abbrev=False)
-    parser.add_argument("--require", choices=LEVELS, default="atomic")
+    parser.add_argument("--require", choices=REQUIRED, default="atomic")
     parser.add_argument("--stale", action="store_true")
     parser.add_argument("--orders", action="store_true")
     known, _ = parser.parse_known_args(options)
@@ -176,6 +177,70 @@ def row_of(register: Register, asked: Asked) -> Row:
     return {**counts, **freshness(register, asked), **guarantees(register, asked)}
 
 
+# ---- causal, of the whole
+
+
+def operations_of(whole: reference.Whole) -> List[Operation]:
+    return [a for register in whole.registers for a in register.all]
+
+
+def way_to(known: Known, a: Operation, r: Operation) -> List[Operation]:
+    """A shortest way by which r, which knows of a, learnt of it."""
+    ways: Deque[List[Operation]] = collections.deque([[r]])
+    while True:
+        way = ways.popleft()
+        if levels.learns(a, way[0]):
+            return [a, *way]
+        ways.extend([b, *way] for b in known.operations if levels.learns(b, way[0]))
+
+
+def causal_steps(known: Known, a: Operation) -> Iterator[Tuple[Operation, Row]]:
+    """What a comes before, each with the step that says why. Of reasons there may be several."""
+    for b in known.operations:
+        ends = {"from": a.line, "to": b.line}
+        if levels.is_process_step(a, b):
+            yield b, {**ends, "why": "process"}
+        if levels.is_source(a, b):
+            yield b, {**ends, "why": "read"}
+        if levels.is_initial_step(a, b):
+            yield b, {**ends, "why": "initial"}
+        for r in known.reads:
+            if levels.is_hidden_by(known, a, b, r):
+                knew = lines_of(way_to(known, a, r))
+                yield b, {**ends, "why": "hidden", "read": r.line, "knew": knew}
+
+
+def causal_cycle(known: Known) -> List[Row]:
+    """The steps of a shortest cycle through any operation."""
+    found: List[List[Row]] = []
+    for a in known.operations:
+        walks: Deque[Tuple[Operation, List[Row]]] = collections.deque([(a, [])])
+        seen = set()
+        while walks:
+            b, steps = walks.popleft()
+            if b == a and steps:
+                found.append(steps)
+                break
+            for c, step in causal_steps(known, b):
+                if c not in seen:
+                    seen.add(c)
+                    walks.append((c, [*steps, step]))
+    assert found, "neither an order nor evidence that there is none"
+    return min(found, key=len)
+
+
+def causal_of(whole: reference.Whole, asked: Asked) -> Row:
+    """What the summary says of it."""
+    known = Known(operations_of(whole))
+    order = levels.causal_order(known)
+    if order is not None:
+        told = {"causal_order": [w.line for w in order if w.line]} if asked.orders else {}
+        return {"causal": "yes", **told}
+    for read in sorted(known.unwritten(), key=lambda read: read.call):
+        return {"causal": "no", "causal_fault": {"kind": "unwritten", "read": read.line}}
+    return {"causal": "no", "causal_fault": {"kind": "cycle", "steps": causal_cycle(known)}}
+
+
 # ---- the summary
 
 
@@ -209,8 +274,8 @@ def answer(history: bytes, options: Sequence[str]) -> Ended:
     except reference.Refused as refused:
         return judging.refused(refused, OPTIONS)
     rows = [row_of(register, asked) for register in whole.registers]
-    holds = all(says(row, asked.require) for row in rows)
-    return Ended(0 if holds else 1, reference.report_text([*rows, summary_of(rows)]), b"")
+    summary = {**summary_of(rows), **causal_of(whole, asked)}
+    return Ended(0 if says(summary, asked.require) else 1, reference.report_text([*rows, summary]), b"")
 
 
 # ---- whether an answer is right
@@ -312,8 +377,100 @@ def judge_row(row: Row, register: Register, asked: Asked) -> None:
         judge_order(register, row["order"], row["order_of"])
 
 
-def judge_report(ended: Ended, registers: Sequence[Register], asked: Asked) -> None:
-    rows = rows_in(ended.output)
+def operation_at(known: Known, line: Any) -> Operation:
+    """That of a line, which isn't 0: initial writes have no line of their own."""
+    found = [a for a in known.operations if type(line) is int and a.line == line != 0]
+    if not found:
+        wrong(line, "is the line of no call")
+    return found[0]
+
+
+def initial_of(known: Known, register: str) -> Operation:
+    return next(w for w in known.writes if w.line == 0 and w.register == register)
+
+
+def end_of_step(known: Known, step: Any) -> Operation:
+    """Where it leads. Line 0 is the initial write of the register that the step is about."""
+    if not isinstance(step, dict) or step.get("why") not in ("process", "read", "initial", "hidden"):
+        wrong(step, "is no step")
+    if step["why"] == "hidden" and reference.same(step.get("to"), 0):
+        return initial_of(known, operation_at(known, step.get("read")).register)
+    return operation_at(known, step.get("to"))
+
+
+def judge_hidden(known: Known, a: Operation, b: Operation, step: Row) -> None:
+    names = ["from", "read", "to", "why"]
+    members_of(step, [*names, "knew"] if "knew" in step else names)
+    r = operation_at(known, step["read"])
+    if not levels.is_hidden_by(known, a, b, r):
+        wrong(r.line, "doesn't give the value of", b.line, "and know of", a.line)
+    if "knew" in step:
+        lines = step["knew"]
+        way = [a, *(operation_at(known, line) for line in lines[1:])] if isinstance(lines, list) else []
+        if not levels.is_way(way) or lines[0] != a.line or way[-1] != r:
+            wrong(lines, "is no way from", a.line, "to", r.line)
+
+
+def judge_causal_step(known: Known, a: Operation, b: Operation, step: Row) -> None:
+    compare("where a step begins", step.get("from"), a.line)
+    if step["why"] == "hidden":
+        return judge_hidden(known, a, b, step)
+    members_of(step, ["from", "to", "why"])
+    is_step = {"process": levels.is_process_step, "read": levels.is_source, "initial": levels.is_initial_step}
+    if not is_step[step["why"]](a, b):
+        wrong(step, "isn't one of its kind")
+
+
+def judge_causal_fault(known: Known, fault: Any) -> None:
+    kind = fault.get("kind") if isinstance(fault, dict) else None
+    if kind == "unwritten":
+        _, line = members_of(fault, ["kind", "read"])
+        if operation_at(known, line) not in known.unwritten():
+            wrong(line, "is no read of a value that nobody wrote")
+    elif kind == "cycle":
+        _, steps = members_of(fault, ["kind", "steps"])
+        if not isinstance(steps, list) or not steps:
+            wrong(steps, "are no steps")
+        ends = [end_of_step(known, step) for step in steps]
+        for a, b, step in zip([ends[-1], *ends], ends, steps):
+            judge_causal_step(known, a, b, step)
+    else:
+        wrong(fault, "is no fault of causal")
+
+
+def judge_causal(whole: reference.Whole, told: Row, asked: Asked) -> None:
+    """It is never unknown: there are few operations."""
+    known = Known(operations_of(whole))
+    want = causal_of(whole, asked)
+    if set(told) != set(want):
+        wrong("of causal the keys are", *sorted(told), "and not", *sorted(want))
+    compare("causal", told["causal"], want["causal"])
+    if "causal_fault" in told:
+        judge_causal_fault(known, told["causal_fault"])
+    if "causal_order" in told:
+        lines = told["causal_order"]
+        if not isinstance(lines, list):
+            wrong(lines, "is no order")
+        initial = [register.all[0] for register in whole.registers]
+        why = levels.why_not_causal(known, [*initial, *(operation_at(known, line) for line in lines)])
+        if why:
+            wrong(f"causal_order {lines}:", why)
+
+
+def broken_law(rows: Sequence[Row]) -> Optional[str]:
+    """The laws that bind causal to the levels of registers, of a report whose verdicts are right."""
+    *registers, summary = rows
+    if says(summary, "atomic") and not says(summary, "causal"):
+        return "an atomic history isn't causal"
+    if says(summary, "causal") and not says(summary, "sequential"):
+        return "a causal history isn't sequential"
+    if len(registers) == 1 and says(summary, "causal") != says(summary, "sequential"):
+        return "with one register, causal and sequential are the same"
+    return None
+
+
+def judge_report(ended: Ended, whole: reference.Whole, asked: Asked) -> None:
+    rows, registers = rows_in(ended.output), whole.registers
     if len(rows) != len(registers) + 1:
         wrong(len(rows), "lines for", len(registers), "registers")
     for row, register in zip(rows, registers):
@@ -321,9 +478,14 @@ def judge_report(ended: Ended, registers: Sequence[Register], asked: Asked) -> N
             judge_row(row, register, asked)
         except Wrong as why:
             wrong(f"register {register.name!r}:", why)
-    compare("the summary", rows[-1], summary_of(rows[:-1]))
-    compare("the exit status", ended.status, 0 if all(says(row, asked.require) for row in rows[:-1]) else 1)
+    told = {key: value for key, value in rows[-1].items() if key.startswith("causal")}
+    judge_causal(whole, told, asked)
+    compare("the summary", rows[-1], {**summary_of(rows[:-1]), **told})
+    compare("the exit status", ended.status, 0 if says(rows[-1], asked.require) else 1)
     compare("standard error", ended.error.decode("utf-8", "replace"), "")
+    law = broken_law(rows)
+    if law:
+        wrong(law)
 
 
 def complaint(history: bytes, ended: Ended, options: Sequence[str]) -> Optional[str]:
@@ -334,7 +496,7 @@ def complaint(history: bytes, ended: Ended, options: Sequence[str]) -> Optional[
         want = judging.refused(refused, OPTIONS)
         return None if ended == want else f"it should end so: {want}"
     try:
-        judge_report(ended, whole.registers, asked_by(options))
+        judge_report(ended, whole, asked_by(options))
     except Wrong as why:
         return str(why)
     return None

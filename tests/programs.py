@@ -69,5 +69,6 @@ def of_reglevel(rows: List[Row]) -> List[Row]:
                   **{count: 0 for count in ("stale", "own", "back", "inverted", "lost")}}
     lines = [{**clean, **{key: row[key] for key in ("register", "reads", "writes", "pending")}}
              for row in registers]
-    return [*lines, {**clean, "operations": summary["operations"], "registers": summary["registers"],
-                     "reads": sum(row["reads"] for row in registers)}]
+    summary = {"causal": "yes", "operations": summary["operations"], "registers": summary["registers"],
+               "reads": sum(row["reads"] for row in registers)}
+    return [*lines, {**clean, **summary}]

@@ -25,6 +25,7 @@ CAS_MISSED = "p1 W x 1; p1 ok; p2 C x 1 2; p3 W x 2; p2 false; p3 ok; p2 C x 3 4
 GIVEN_UP = "p1 C x null 1; p2 C x null 2; p3 W x 5; p3 ok; p1 true; p2 true"  # if one configuration is held
 TWO_REGISTERS = INVERSION + "; p1 W y 1; p1 ok; p2 W y 2; p2 ok; p3 R y; p3 = 2; p3 R y; p3 = 1"
 OLD = "p1 W x 1; p1 ok; p1 W x 2; p1 ok; p2 R x; p2 = 1; p3 R x; p3 = null"
+HIDDEN = "p1 W x 1; p1 ok; p1 W y 1; p1 ok; p2 R y; p2 = 1; p2 R x; p2 = null"  # not causal
 BOTH_HALVES = "p1 W x 1; p2 W x 2; p1 ok; p2 ok; p1 R x; p1 = 2; p3 R x; p3 = 2; p3 R x; p3 = 1"
 EARLY = "p1 R x; p1 = 1; p2 W x 1; p2 ok"
 BLOCK = b"\n" * 3_000_000  # blank lines, more than the program reads at once
@@ -171,7 +172,7 @@ def refused_search_cases(program: str) -> List[Case]:
 def refused_level_cases(program: str) -> List[Case]:
     """What reglevel is run on while memory is refused."""
     named = {"write_and_read": WRITE_AND_READ, "inversion": INVERSION, "two registers": TWO_REGISTERS,
-             "written twice": WRITTEN_TWICE, "both halves": BOTH_HALVES, "early": EARLY,
+             "written twice": WRITTEN_TWICE, "both halves": BOTH_HALVES, "early": EARLY, "hidden": HIDDEN,
              "unwritten": "p1 R x; p1 = 9"}
     cases = [level_case(program, name, ("--workers", "2"), history(text)) for name, text in named.items()]
     cases.append(level_case(program, "inversion, one worker", ("--workers", "1"), history(INVERSION)))
@@ -179,6 +180,8 @@ def refused_level_cases(program: str) -> List[Case]:
     for name, text in {"session": OLD, "both halves": BOTH_HALVES, "sequential": EARLY}.items():
         words = ("--orders", "--stale", "--require", "session")
         cases.append(level_case(program, f"{name}, with orders", words, history(text)))
+    cases.append(level_case(program, "causal, with its order", ("--orders", "--require=causal"),
+                            history(MERGED)))
     cases.append(level_case(program, "by name", (), history(INVERSION))._replace(named=True))
     cases.append(level_case(program, "in two blocks", ("--workers", "2"), in_two_blocks(history(INVERSION))))
     cases.append(Case("bad words", ("--workers", "17"), history(INVERSION), (3, b"", BAD_WORDS)))

@@ -48,6 +48,7 @@ func searched(history []byte, bounds []Bound) (Verdict, []byte, error) {
 var levels = map[Level]C.uint32_t{
 	Atomic: C.REGLEVEL_ATOMIC, Regular: C.REGLEVEL_REGULAR, Session: C.REGLEVEL_SESSION,
 	OwnWrites: C.REGLEVEL_OWN_WRITES, Monotonic: C.REGLEVEL_MONOTONIC, Sequential: C.REGLEVEL_SEQUENTIAL,
+	Causal: C.REGLEVEL_CAUSAL,
 }
 
 // ask asks reglevel, whose report lists each stale read.
@@ -63,6 +64,9 @@ func (answer *LevelAnswer) ask() error {
 		return C.regcheck_refusal(input, length, at(line), C.size_t(len(line)))
 	})
 	answer.Kept, answer.Report = verdict == Yes, report
+	if err == nil && verdict == Unknown {
+		return ErrLevelUnknown
+	}
 	return err
 }
 

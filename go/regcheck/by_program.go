@@ -34,6 +34,8 @@ func (answer *LevelAnswer) ask() error {
 	case statusAtomic, statusNotAtomic:
 		answer.Kept, answer.Report, answer.program = said.status == statusAtomic, said.output, path
 		return nil
+	case statusUnknown:
+		return ErrLevelUnknown
 	case statusRefused:
 		return refusalOf(said.complaint)
 	}

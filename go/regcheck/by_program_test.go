@@ -69,7 +69,13 @@ func TestWordsOfLevels(t *testing.T) {
 
 func TestWithoutLevels(t *testing.T) {
 	recorder := goesBack(t)
-	mustSay(t, leveled(recorder, "causal"), "no verdict: ", "ended with status 3: ")
+	mustSay(t, leveled(recorder, "eventual"), "no verdict: ", "ended with status 3: ")
+	unsure := filepath.Join(t.TempDir(), "reglevel")
+	if err := os.WriteFile(unsure, []byte("#!/bin/sh\nexit 6\n"), 0o755); err != nil {
+		t.Fatal(err)
+	}
+	t.Setenv("REGLEVEL", unsure)
+	mustSay(t, leveled(recorder, regcheck.Causal), "no verdict: causal is unknown: deciding it would take ")
 	t.Setenv("REGLEVEL", "/nowhere/reglevel")
 	mustSay(t, leveled(recorder, regcheck.Session), "no verdict: /nowhere/reglevel could not be run")
 }

@@ -8,8 +8,8 @@ import (
 	"strings"
 )
 
-// A Level is a guarantee that a store may give of each of its keys. docs/levels.md explains them. A session
-// is a client of a recorder until one of its calls stays pending.
+// A Level is a guarantee that a store may give of each of its keys, or, as Causal, of all of them together.
+// docs/levels.md explains them. A session is a client of a recorder until one of its calls stays pending.
 type Level string
 
 const (
@@ -19,9 +19,14 @@ const (
 	OwnWrites  Level = "own_writes" // writes in the order of time; no session misses a write of its own
 	Monotonic  Level = "monotonic"  // writes in the order of time; no session goes back to an older value
 	Sequential Level = "sequential" // each session in order; all agree on one order of the writes
+	Causal     Level = "causal"     // of all keys together: no read misses a newer write that it knew of
 )
 
-// A LevelAnswer says whether each register of a history keeps a level, and why not.
+// ErrLevelUnknown says that reglevel gave up, as it may do if Causal is asked for.
+var ErrLevelUnknown = errors.New("causal is unknown: deciding it would take more memory or work than " +
+	"reglevel spends. It is decided for fewer sessions, or a shorter run")
+
+// A LevelAnswer says whether each register of a history, or the whole of it, keeps a level, and why not.
 type LevelAnswer struct {
 	Level   Level
 	Kept    bool
@@ -35,7 +40,7 @@ type LevelAnswer struct {
 // decides, which takes what regcheck takes: reads and writes, each value written once to a register. Without
 // the library it is the one that REGLEVEL names, the one beside regcheck, or the one on PATH.
 //
-// The error says why there is no answer: it may be a *Refusal.
+// The error says why there is no answer: it may be a *Refusal, or ErrLevelUnknown.
 func CheckLevel(history []byte, level Level) (LevelAnswer, error) {
 	answer := LevelAnswer{Level: level, History: history}
 	err := answer.ask()
@@ -137,11 +142,12 @@ func (files files) drawWhole(history []byte) string {
 	return files.draw("-", report)
 }
 
-// lacking gives the lines of the report whose registers lack the level.
+// lacking gives the lines of the report whose registers lack the level. Of Causal it is the last line.
 func lacking(answer LevelAnswer) string {
 	lines := []string{"doesn't keep " + string(answer.Level)}
 	for _, line := range strings.Split(string(answer.Report), "\n") {
-		if strings.Contains(line, `"register":`) && strings.Contains(line, `"`+string(answer.Level)+`":"no"`) {
+		told := answer.Level == Causal || strings.Contains(line, `"register":`)
+		if told && strings.Contains(line, `"`+string(answer.Level)+`":"no"`) {
 			lines = append(lines, "  "+line)
 		}
 	}

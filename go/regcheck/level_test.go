@@ -46,6 +46,7 @@ func TestLevels(t *testing.T) {
 	}
 	for _, level := range []regcheck.Level{
 		regcheck.Atomic, regcheck.Regular, regcheck.Session, regcheck.Monotonic, regcheck.Sequential,
+		regcheck.Causal,
 	} {
 		mustSay(t, leveled(recorder, level), "/nowhere/regkit could not be run",
 			"TestTold_a_b.jsonl: doesn't keep "+string(level)+"\n  {\"atomic\":\"no\"")

@@ -237,8 +237,8 @@ public final class Recorder {
     }
 
     /**
-     * A guarantee that a store may give of each of its keys. docs/levels.md explains them. A session is a
-     * client of a recorder until one of its calls stays pending.
+     * A guarantee that a store may give of each of its keys, or, as CAUSAL, of all of them together.
+     * docs/levels.md explains them. A session is a client of a recorder until one of its calls stays pending.
      */
     public enum Level {
         /** Linearizable: each read gives the latest write. */
@@ -252,7 +252,9 @@ public final class Recorder {
         /** Writes in the order of time, and no session goes back to an older value. */
         MONOTONIC,
         /** Each session in order, and all agree on one order of the writes. */
-        SEQUENTIAL;
+        SEQUENTIAL,
+        /** Of all keys together: no read misses a newer write that it knew of. */
+        CAUSAL;
 
         /** The word of the command line, and the key of the report. */
         private String key() {
@@ -261,8 +263,8 @@ public final class Recorder {
     }
 
     /**
-     * Whether each register of a history keeps a level, the report of reglevel, and the path of the reglevel
-     * that answered.
+     * Whether each register of a history, or the whole of it, keeps a level, the report of reglevel, and the
+     * path of the reglevel that answered.
      */
     public record LevelAnswer(Level level, boolean kept, byte[] report, String program) {
         /**
@@ -277,13 +279,15 @@ public final class Recorder {
     /**
      * Says whether each register of a history keeps a level. It runs reglevel, which takes what regcheck
      * takes: reads and writes, each value written once to a register. Throws NotChecked, in the words of the
-     * program, if there is no answer.
+     * program, if there is no answer; or if reglevel gave up, as it may do if CAUSAL is asked for.
      */
     public static LevelAnswer checkLevel(byte[] history, Level level) {
         String program = Programs.reglevel();
         Ran ran = Ran.run(history, List.of(program, "--stale", "--require", level.key()));
         return switch (ran.status()) {
             case ATOMIC, NOT_ATOMIC -> new LevelAnswer(level, ran.status() == ATOMIC, ran.output(), program);
+            case GAVE_UP -> throw new NotChecked("causal is unknown: deciding it would take more memory or "
+                    + "work than reglevel spends. It is decided for fewer sessions, or a shorter run");
             case REFUSED -> throw new NotChecked(
                     ran.words() + "; reglevel takes reads and writes of distinct values");
             default -> throw new NotChecked(
@@ -836,12 +840,13 @@ public final class Recorder {
             }
         }
 
-        /** The lines of the report whose registers lack the level. */
+        /** The lines of the report whose registers lack the level. Of CAUSAL it is the last line. */
         static String lacking(LevelAnswer answer) {
             String level = answer.level().key();
             String no = "\"" + level + "\":\"no\"";
+            boolean ofTheWhole = answer.level() == Level.CAUSAL;
             Stream<String> lines = new String(answer.report(), StandardCharsets.UTF_8).lines()
-                    .filter(line -> line.contains("\"register\":") && line.contains(no))
+                    .filter(line -> (ofTheWhole || line.contains("\"register\":")) && line.contains(no))
                     .map(line -> "  " + line);
             return Stream.concat(Stream.of("doesn't keep " + level), lines).collect(Collectors.joining("\n"));
         }

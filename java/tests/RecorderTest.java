@@ -316,12 +316,19 @@ final class RecorderTest {
                 && brief.contains("/nowhere/regkit could not be run"), brief);
     }
 
-    static void noLevel() {
+    static void noLevel() throws Exception {
         Recorder little = new Recorder().keepIn(folder);
         little.client("one").write("x", value -> {});
         Action session = () -> little.assertLevel("none", Recorder.Level.SESSION);
         String words = thrown(Recorder.NotKept.class, session).getMessage();
         expect(words.contains("the history keeps session, but no read was completed"), words);
+        Path unsure = Files.createTempFile("reglevel", "");
+        Files.writeString(unsure, "#!/bin/sh\nexit 6\n");
+        expect(unsure.toFile().setExecutable(true), "a program");
+        System.setProperty("reglevel", unsure.toString());
+        Action causal = () -> little.assertLevel("none", Recorder.Level.CAUSAL);
+        String unknown = thrown(Recorder.NotChecked.class, causal).getMessage();
+        expect(unknown.contains("causal is unknown: deciding it would take"), unknown);
         System.setProperty("reglevel", "/nowhere/reglevel");
         String none = thrown(Recorder.NotChecked.class, session).getMessage();
         System.clearProperty("reglevel");

@@ -257,7 +257,7 @@ async function goesBack() {
 test("a level that is kept, and those that aren't", async () => {
   const recorder = await goesBack();
   recorder.assertLevel("level", "own_writes");
-  for (const level of ["atomic", "regular", "session", "monotonic", "sequential"]) {
+  for (const level of ["atomic", "regular", "session", "monotonic", "sequential", "causal"]) {
     assert.throws(() => recorder.assertLevel("level", level), (error) => error instanceof NotKept
       && error.message.includes("level.jsonl: keeps read your writes; not linearizable"));
   }
@@ -279,7 +279,13 @@ test("no answer about a level", async () => {
     && error.message.includes("the history keeps session, but no read was completed"));
   withProgram("REGLEVEL", "/nowhere/reglevel", () => assert.throws(asserted, (error) => (
     error instanceof NotChecked && error.message.includes("no verdict: /nowhere/reglevel could not be "))));
-  assert.throws(() => recorder.assertLevel("none", "causal"), /"causal" is no level: it is one of atomic, /);
+  assert.throws(() => recorder.assertLevel("none", "weak"), /"weak" is no level: it is one of atomic, /);
+  const unsure = path.join(folder, "unsure");
+  fs.writeFileSync(unsure, "#!/bin/sh\nexit 6\n", { mode: 0o755 });
+  const isUnsure = (error) => error instanceof NotChecked
+    && error.message.includes("no verdict: causal is unknown: deciding it would take");
+  const causal = () => recorder.assertLevel("none", "causal");
+  withProgram("REGLEVEL", unsure, () => assert.throws(causal, isUnsure));
   await recorder.client("one").cas("x", 1, 2, () => true);
   assert.throws(asserted, (error) => error instanceof NotChecked
     && error.message.includes("; reglevel takes reads and writes of distinct values"));

@@ -15,7 +15,7 @@ its own check is the only one. pytest loads this module if regkit is installed; 
 import pathlib
 from typing import Any, Callable, Iterator, Optional
 
-from regkit.checker.levels import LEVELS
+from regkit.checker.levels import REQUIRED
 from regkit.record import Recorder
 from regkit.testing import assert_atomic, assert_level, keep, verdict
 
@@ -44,7 +44,7 @@ def pytest_addoption(parser: Any) -> None:
 
 def pytest_configure(config: Any) -> None:
     config.addinivalue_line("markers", f"{MARKER}(level): the history of {FIXTURE} has to keep this level, "
-                                       f"in place of being linearizable: {', '.join(LEVELS)}")
+                                       f"in place of being linearizable: {', '.join(REQUIRED)}")
 
 
 @fixture

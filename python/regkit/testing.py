@@ -12,7 +12,7 @@ from typing import Optional, Sequence, Union
 
 from regkit.base.statuses import ExitStatus
 from regkit.checker.bounds import bounds
-from regkit.checker.levels import DISTINCT, LEVELS, Levels, kept, levels_in
+from regkit.checker.levels import DISTINCT, REQUIRED, Levels, levels_in
 from regkit.checker.programs import (Answer, NoChecker, decide, is_for_search, judge_levels,
                                      with_search_hint)
 from regkit.checker.report import read_report
@@ -31,7 +31,7 @@ class NotAtomic(AssertionError):
 
 
 class NotKept(AssertionError):
-    """Some register of the history doesn't keep the level that was asked for."""
+    """Some register of the history, or the whole of it, doesn't keep the level that was asked for."""
 
 
 class TooLittleEvidence(AssertionError):
@@ -70,13 +70,13 @@ def assert_level(history: Recorded, level: str, *, least_reads: int = 1, least_o
     """Raises AssertionError, in the words of `regkit levels`, unless each register of the history keeps a
     level, with enough evidence.
 
-    The level is one of atomic, regular, session, own_writes, monotonic and sequential, which docs/levels.md
-    explains. The history, the evidence and the mistakes are as in `assert_atomic`. reglevel decides, or the
-    library in its place, and takes the histories that regcheck takes. Raises NotChecked if it gives no
-    answer, and NoChecker if it isn't there."""
+    The level is one of atomic, regular, session, own_writes, monotonic and sequential, or causal, which is of
+    all registers together: docs/levels.md explains them. The history, the evidence and the mistakes are as in
+    `assert_atomic`. reglevel decides, or the library in its place, and takes the histories that regcheck
+    takes. Raises NotChecked if it gives no answer or doesn't know, and NoChecker if it isn't there."""
     __tracebackhide__ = True
-    if level not in LEVELS:
-        raise ValueError(f"{level!r} is no level: it is one of {', '.join(LEVELS)}")
+    if level not in REQUIRED:
+        raise ValueError(f"{level!r} is no level: it is one of {', '.join(REQUIRED)}")
     _trust(history, level)
     data, path = _data(history), _path(history)
     name = str(path) if path else "the history"
@@ -103,7 +103,7 @@ def verdict(recorder: Recorder, level: Optional[str] = None) -> str:
         return f"the recorder was used wrongly: {recorder.mistakes[0]}"
     data = recorder.history()
     try:
-        return _level_verdict(data, level) if level in LEVELS else _atomic_verdict(data)
+        return _level_verdict(data, level) if level in REQUIRED else _atomic_verdict(data)
     except (NoChecker, NotChecked) as error:
         return str(error)
 
@@ -205,10 +205,12 @@ def _how_to_see(path: pathlib.Path, options: Sequence[str] = ()) -> str:
 def _not_kept(data: bytes, level: str) -> str:
     """Why a history doesn't keep a level, as `regkit levels` says it; empty if it does. Raises NotChecked."""
     answer = judge_levels(data, level, stale=True)
-    if answer.status not in (ExitStatus.ATOMIC, ExitStatus.NOT_ATOMIC):
+    if not answer.decided:
         raise NotChecked(_without_levels(data, answer))
     try:
         levels = levels_in(answer, level)
+        if answer.status == ExitStatus.UNKNOWN:
+            raise NotChecked(_unknown())
         return _account(data, levels, level) if answer.status == ExitStatus.NOT_ATOMIC else ""
     except (KeyError, TypeError, ValueError, IndexError) as error:
         raise NotChecked(f"the answer of reglevel is wrong: {error}") from error
@@ -226,7 +228,13 @@ def _account(data: bytes, levels: Levels, level: str) -> str:
     from regkit.levels.account import account, heading, required  # only a test that fails needs these
     from regkit.levels.subject import Places, Subject
 
-    history, summary = read_history(data), levels.summary
-    whole = heading(kept(summary), summary["operations"], summary["registers"])
+    history = read_history(data)
     subject = Subject(history, levels, Places(data, history))
-    return "\n".join([whole, required(levels, level), *account(subject)])
+    return "\n".join([heading(levels.summary), required(levels, level), *account(subject)])
+
+
+def _unknown() -> str:
+    """That reglevel gave up, as it may on causal."""
+    from regkit.levels.causal import UNKNOWN
+
+    return UNKNOWN

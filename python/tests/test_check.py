@@ -65,7 +65,7 @@ standard input: not linearizable: 1 faulty register; 2 operations on 1 register;
 so null comes before 5
     the write of 5 by process 1 (lines 1 to 2) ended before the read of null by process 2 (lines 3 to 4) \
 began, so 5 comes before null
-  it keeps session: `regkit levels` says more
+  it keeps session and causal: `regkit levels` says more
 """)
 
     def test_the_examples(self) -> None:

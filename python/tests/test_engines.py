@@ -10,6 +10,7 @@ from typing import Dict, List, Sequence
 
 from regkit.checker.programs import LEVEL, SEARCH, find_checker, find_program, judge_levels
 from regkit.commands import join, split
+from regkit.commands.join import WITHOUT_CAUSAL
 from regkit.parts.folder import file_of
 from tests.split_support import STAND_IN_SBATCH, Ran, python_with_dask, run_command, search, whole
 from tests.test_split import Folder, call, cas, end, has_checker, history_of
@@ -227,9 +228,10 @@ class Levels(Folder):
         self.assertIn("are for reglevel, which has no bounds: leave out --steps", bounds.stderr)
         *rows, summary = map(json.loads, judge_levels(history).report.splitlines())
         joined = run_command(join, self.directory)
-        self.assertEqual((joined.status, joined.words), (1, ""))
+        self.assertEqual((joined.status, joined.words), (1, f"regkit join: {WITHOUT_CAUSAL}\n"))
         for row in (*rows, summary):
             row.pop("gap", None)
+        self.assertEqual(summary.pop("causal"), "yes")
         self.assertEqual([json.loads(line) for line in joined.report.splitlines()], [*rows, summary])
 
 

@@ -9,6 +9,7 @@ from regkit.checker.levels import HALVES, LEVELS
 from regkit.checker.programs import CHECK, LEVEL, SEARCH
 from regkit.checker.report import Row
 from regkit.commands import split
+from regkit.commands.join import WITHOUT_CAUSAL
 from regkit.parts.folder import BLANK, MAP, file_of, read_manifest
 from regkit.verify import verify
 from regkit.verify.rows import Wrong
@@ -21,6 +22,7 @@ COUNTS = ("back", "inverted", "lost", "own", "reads", "stale")
 NOTHING: Row = {**dict.fromkeys(("atomic", "regular", "session", "sequential"), "yes"),
                 **dict.fromkeys(COUNTS, 0), "operations": 0, "registers": 0}
 FOLLOWER = next(path for path in EXAMPLES if path.stem == "follower_behind")
+NOTE = f"regkit join: {WITHOUT_CAUSAL}\n"
 LINES = {"first", "second", "writes", "steps", "read", "write", "newer", "seen", "earlier", "lost_write"}
 
 
@@ -43,7 +45,9 @@ def summary_of(row: Row) -> Row:
 
 
 def without_gaps(rows: Sequence[Row]) -> bytes:
-    return b"".join(line_of({key: value for key, value in row.items() if key != "gap"}) for row in rows)
+    """What of some rows comes together from parts."""
+    left_out = ("gap", "causal", "causal_fault")
+    return b"".join(line_of({key: row[key] for key in row if key not in left_out}) for row in rows)
 
 
 def report_of(path: pathlib.Path) -> List[Row]:
@@ -115,7 +119,7 @@ class Levels(HandMade):
                 pathlib.Path(self.directory).mkdir()
                 self.split(path.read_bytes(), rows, 2, lines)
                 joined = self.join()
-                self.assertEqual(joined, (1, without_gaps([*rows, summary]), ""), path)
+                self.assertEqual(joined, (1, without_gaps([*rows, summary]), NOTE), path)
                 self.assertEqual(verify(path.read_bytes(), joined.report, joined=True).operations,
                                  summary["operations"])
                 with self.assertRaises(Wrong):
@@ -125,16 +129,16 @@ class Levels(HandMade):
         """The sums are counted by hand."""
         history, rows = all_in_one()
         base = self.directory
-        summary = {"atomic": "no", "back": 2, "inverted": 4, "lost": 1, "monotonic": "no", "operations": 48,
-                   "own": 2, "own_writes": "no", "reads": 29, "registers": 10, "regular": "no",
-                   "sequential": "no", "session": "no", "stale": 9}
+        summary = {"atomic": "no", "back": 2, "inverted": 7, "lost": 1, "monotonic": "no", "operations": 59,
+                   "own": 2, "own_writes": "no", "reads": 36, "registers": 14, "regular": "no",
+                   "sequential": "no", "session": "no", "stale": 12}
         for lines in (BLANK, MAP):
             self.directory = f"{base}/{lines}"
             pathlib.Path(self.directory).mkdir()
-            self.split(history, rows, 10, lines)
+            self.split(history, rows, len(rows), lines)
             joined = self.join()
-            self.assertEqual(joined, (1, without_gaps([*rows, summary]), ""))
-            self.assertEqual(verify(history, joined.report, joined=True).operations, 48)
+            self.assertEqual(joined, (1, without_gaps([*rows, summary]), NOTE))
+            self.assertEqual(verify(history, joined.report, joined=True).operations, 59)
 
     def test_registers_without_counts(self) -> None:
         events = [{"process": 1, "event": "call", "op": "read", "register": "x"},
@@ -147,7 +151,7 @@ class Levels(HandMade):
                         "registers": 1, "unclean": 1}
         self.split(b"".join(map(line_of, events)), [], 2, MAP)
         self.answer(0, [row, summary])
-        self.assertEqual(self.join(), (1, line_of(row) + line_of(summary), ""))
+        self.assertEqual(self.join(), (1, line_of(row) + line_of(summary), NOTE))
 
     def follower(self) -> None:
         self.split(FOLLOWER.read_bytes(), report_of(FOLLOWER)[:-1], 2)
@@ -156,6 +160,39 @@ class Levels(HandMade):
         self.follower()
         for level, status in [("atomic", 1), ("regular", 1), ("session", 0), ("own_writes", 0)]:
             self.assertEqual(self.join("--require", level).status, status, level)
+
+    def test_causal_of_several_parts(self) -> None:
+        """A part's own answer is no part of that of the whole."""
+        self.follower()
+        ran = self.join("--require", "causal")
+        self.assertEqual((ran.status, ran.report), (3, b""))
+        self.assertIn("causal is of all registers together, and doesn't come together from parts", ran.words)
+        joined = self.join("--require", "session")
+        self.assertEqual((joined.status, joined.words), (0, NOTE))
+        self.assertNotIn("causal", json.loads(joined.report.splitlines()[-1]))
+
+    def test_causal_of_one_part(self) -> None:
+        """Its lines are those of the whole."""
+        base = self.directory
+        path = next(path for path in EXAMPLES if path.stem == "answer_before_question")
+        spread = b"".join(b"\n" + line for line in path.read_bytes().splitlines(keepends=True))
+        for verdict, status in (("no", 1), ("unknown", 6), ("yes", 0)):
+            self.directory = f"{base}/{verdict}"
+            pathlib.Path(self.directory).mkdir()
+            self.split(spread, [], 1, MAP)
+            *rows, summary = report_of(path)
+            fault = summary.pop("causal_fault")
+            more: Row = {"causal_fault": fault} if verdict == "no" else {}
+            self.part(0, str(status), [*rows, {**summary, "causal": verdict, **more}])
+            joined = self.join("--require", "causal")
+            self.assertEqual((joined.status, joined.words), (status, ""))
+            whole = json.loads(joined.report.splitlines()[-1])
+            self.assertEqual(whole["causal"], verdict)
+            if verdict == "no":
+                self.assertEqual(whole["causal_fault"]["steps"], [
+                    {"from": 2, "knew": [2, 6, 10, 14, 18], "read": 18, "to": 0, "why": "hidden"},
+                    {"from": 0, "to": 2, "why": "initial"}])
+                self.assertEqual(verify(spread, joined.report).operations, 5)
 
     def test_parts_that_were_asked_for_a_level(self) -> None:
         """Their status says whether they keep it, and not whether they are atomic."""

@@ -94,8 +94,25 @@ class Levels(Placed):
                 assert_level(BACK, "session")
 
     def test_another_word(self) -> None:
-        with self.assertRaisesRegex(ValueError, "'causal' is no level: it is one of atomic, regular, "):
-            assert_level(BACK, "causal")
+        with self.assertRaisesRegex(ValueError, "'eventual' is no level: it is one of atomic, .*, causal"):
+            assert_level(BACK, "eventual")
+
+    def test_causal(self) -> None:
+        """It is of the whole, and may be unknown: that is no answer."""
+        table = [("yes", 0), ("no", 1), ("unknown", 6)]
+        for verdict, status in table:
+            changed = report().replace(b'"sequential":"no","session":"no","stale":1}', b'"sequential":"yes",'
+                                       b'"session":"no","stale":1}').replace(b'"causal":"no"',
+                                                                             f'"causal":"{verdict}"'.encode())
+            with self.subTest(verdict), self.in_place(changed, status):
+                if verdict == "yes":
+                    self.assertEqual(assert_level(BACK, "causal").operations, 4)
+                elif verdict == "no":
+                    with self.assertRaisesRegex(NotKept, "\n  required: causal, which doesn't hold\n"):
+                        assert_level(BACK, "causal")
+                else:
+                    with self.assertRaisesRegex(NotChecked, "causal is unknown: deciding it would take more"):
+                        assert_level(BACK, "causal")
 
     def test_a_mistake_comes_out(self) -> None:
         recorder = written()
@@ -123,7 +140,7 @@ class UnderPytest(Placed):
         for name, result in [("marked", "FAILED"), ("own", "PASSED"), ("wrong", "FAILED")]:
             self.assertIn(f"{result} test_it.py::test_{name}", out)
         self.assertEqual(out.count("required: session"), 1, out)
-        self.assertIn("'causal' is no level", out)
+        self.assertIn("'eventual' is no level", out)
         self.assertNotIn("The contradiction", out)
         self.assertEqual({*self.words()}, {"--stale --require session"})
 
@@ -150,7 +167,7 @@ PYTEST_FILE = """
         with pytest.raises(NotKept):
             assert_level(regkit_recorder, "session")
 
-    @pytest.mark.regkit_level("causal")
+    @pytest.mark.regkit_level("eventual")
     def test_wrong(regkit_recorder):
         use(regkit_recorder)
 """

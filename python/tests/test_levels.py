@@ -9,7 +9,7 @@ import unittest
 from typing import Any, Dict, List, Optional, Tuple
 from unittest import mock
 
-from regkit.checker.levels import LEVELS, kept, read_levels, strongest
+from regkit.checker.levels import CAUSAL, LEVELS, REQUIRED, kept, lacking, levels_in, read_levels, strongest
 from regkit.checker.programs import LEVEL, find_program
 from regkit.history.operations import read_history
 from regkit.levels.account import groups, heading
@@ -71,7 +71,7 @@ class Accounts(Placed):
         self.assertEqual((ran.status, ran.err), (1, ""))
         self.assertEqual(self.words(), ["--stale"])
         self.assertEqual(ran.out, f"""\
-{FOLLOWER}: keeps session; not linearizable or regular: 9 operations on 2 registers
+{FOLLOWER}: keeps session and causal; not linearizable or regular: 9 operations on 2 registers
   1 register kept session at most: "cart"
   1 register is linearizable: "stock"
   linearizable only if reads might be 12.3 ms old or more (5 events)
@@ -98,8 +98,8 @@ was missed by all later reads
         """It breaks two levels, and is told once."""
         ran = self.told("readers_disagree", stale_reads=[])
         self.assertEqual(ran.out, f"""\
-{EXAMPLES}/readers_disagree.jsonl: keeps regular and read your writes; not linearizable, session, monotonic reads \
-or sequential: 6 operations on 1 register
+{EXAMPLES}/readers_disagree.jsonl: keeps regular and read your writes; not linearizable, session, monotonic reads, \
+sequential or causal: 6 operations on 1 register
   linearizable if reads might be 6 events old, and no less
   no read was stale; no session missed a write of its own; no session went back to an older value; \
 no read gave an older value than an earlier read; no acknowledged write was missed by all later reads
@@ -112,7 +112,8 @@ so 2 comes before 1
     def test_lines_of_other_examples(self) -> None:
         table: List[Tuple[str, List[List[int]], List[str]]] = [
             ("own_write_missed", [[7, 5]], [
-                "keeps monotonic reads; not linearizable, regular, session, read your writes or sequential: 5",
+                "keeps monotonic reads; not linearizable, regular, session, read your writes, sequential or "
+                "causal: 5",
                 "  1 of 3 reads (33.3%) was stale: a newer write had ended before it began\n",
                 "    it came 1 event after a newer write had ended\n",
                 "  1 read missed a write of its own session\n    the first: the read of 1 by process 1 (lines 7 to "
@@ -179,16 +180,24 @@ so 2 comes before 1
                                   "register\n", ""))
 
     def test_the_headings(self) -> None:
-        table: List[Tuple[List[str], str]] = [
-            ([], "keeps no level; not linearizable, regular, session, read your writes, monotonic reads or sequential"),
-            (["regular"], "keeps regular; not linearizable, session,"),
-            (["session", "own_writes", "monotonic", "sequential"],
-             "keeps session; not linearizable or regular:"),
-            (["own_writes", "sequential"],
-             "keeps read your writes and sequential; not linearizable, regular, session or monotonic reads:"),
+        session = ["session", "own_writes", "monotonic", "sequential"]
+        table: List[Tuple[List[str], str, str]] = [
+            ([], "", "keeps no level; not linearizable, regular, session, read your writes, monotonic reads "
+             "or sequential: 1 operation"),
+            (["regular"], "no", "keeps regular; not linearizable, session,"),
+            (session, "", "keeps session; not linearizable or regular: 1 operation"),
+            (session, "yes", "keeps session and causal; not linearizable or regular: 1 operation"),
+            (session, "no", "keeps session; not linearizable, regular or causal: 1 operation"),
+            (session, "unknown", "keeps session; not linearizable or regular; causal is unknown: 1 op"),
+            (["sequential"], "yes", "keeps causal; not linearizable, regular, session, read your writes or "
+             "monotonic reads: 1 operation"),
+            (["own_writes", "sequential"], "unknown", "keeps read your writes and sequential; not "
+             "linearizable, regular, session or monotonic reads; causal is unknown: 1 operation"),
         ]
-        for found, words in table:
-            self.assertTrue(heading(found, 1, 1).startswith(words), found)
+        for found, causal, words in table:
+            summary: Dict[str, Any] = {level: "yes" if level in found else "no" for level in LEVELS}
+            summary.update({"operations": 1, "registers": 1}, **({CAUSAL: causal} if causal else {}))
+            self.assertTrue(heading(summary).startswith(words), (found, heading(summary)))
 
 
 class Required(Placed):
@@ -203,9 +212,9 @@ class Required(Placed):
             self.assertEqual(self.words()[-1], f"--stale --require {level}")
 
     def test_another_word(self) -> None:
-        ran = run("levels", "--require", "causal", FOLLOWER)
+        ran = run("levels", "--require", "eventual", FOLLOWER)
         self.assertEqual((ran.status, ran.out), (3, ""))
-        self.assertIn("invalid choice: 'causal'", ran.err)
+        self.assertIn("invalid choice: 'eventual'", ran.err)
 
     def test_a_status_that_the_report_contradicts(self) -> None:
         contradicted: List[Tuple[List[str], int]] = [(["--require", "session"], 1), ([], 0)]
@@ -380,7 +389,7 @@ class Faults(unittest.TestCase):
 
 class Guesses(unittest.TestCase):
     def summary(self, levels: str, **counts: int) -> Dict[str, Any]:
-        given = {level: "yes" if level in levels.split() else "no" for level in LEVELS}
+        given = {level: "yes" if level in levels.split() else "no" for level in REQUIRED}
         return {**given, **dict.fromkeys(("stale", "own", "back", "inverted", "lost"), 0), **counts}
 
     def test_what_simulated_stores_did(self) -> None:
@@ -388,12 +397,17 @@ class Guesses(unittest.TestCase):
         table: List[Tuple[str, Dict[str, int], str]] = [
             ("regular own_writes", {"back": 964, "inverted": 4526}, "written synchronously"),
             ("", {"stale": 455, "own": 40, "back": 110, "inverted": 983}, "quorums without write-back"),
-            ("session own_writes monotonic sequential", {"stale": 70, "inverted": 41}, "that are behind"),
+            ("session own_writes monotonic sequential causal", {"stale": 70, "inverted": 41},
+             "that are behind, where each"),
+            ("session own_writes monotonic sequential", {"stale": 34000, "inverted": 19784},
+             "each key or shard by itself"),
             ("own_writes", {"stale": 21665, "back": 3032, "inverted": 17572}, "with a token"),
             ("own_writes", {"stale": 455, "back": 110, "inverted": 983}, "quorums without write-back"),
             ("monotonic", {"stale": 310835, "own": 64983, "inverted": 82008}, "keep to one replica"),
             ("monotonic", {"stale": 79905, "own": 7144}, "or one copy that ignores"),
-            ("sequential", {"stale": 224455, "back": 20619, "inverted": 166620}, "several leaders"),
+            ("sequential causal", {"stale": 224455, "own": 16605, "back": 20619, "inverted": 166620},
+             "several leaders with causal delivery"),
+            ("sequential", {"stale": 224455, "back": 20619, "inverted": 166620}, "without causal delivery"),
             ("", {"stale": 310695, "own": 63474, "back": 23620, "inverted": 80282}, "or a failover"),
             ("", {"stale": 12495, "own": 886, "back": 98, "inverted": 928}, "a cache in front"),
             ("", {"stale": 79065, "own": 6348, "back": 2830, "inverted": 25775}, "replicas or caches"),
@@ -417,7 +431,8 @@ class Strength(unittest.TestCase):
         row = {"atomic": "no", "regular": "yes", "session": "yes", "sequential": "yes"}
         self.assertEqual(kept(row), ["regular", "session", "own_writes", "monotonic", "sequential"])
         self.assertEqual(strongest(kept(row)), ["regular", "session"])
-        self.assertEqual(strongest(LEVELS), ["atomic"])
+        self.assertEqual(strongest(REQUIRED), ["atomic"])
+        self.assertEqual(strongest(kept({**row, CAUSAL: "yes"})), ["regular", "session", "causal"])
         halved = {**row, "session": "no", "own_writes": "no", "monotonic": "yes", "regular": "no"}
         self.assertEqual(kept(halved), ["monotonic", "sequential"])
 
@@ -441,9 +456,16 @@ class Checks(Placed):
     def test_one_line(self) -> None:
         with self.in_place(stored("order_against_time")):
             ran = self.checked()
-            self.assertEqual(ran.out.splitlines()[-1], "  it keeps sequential: `regkit levels` says more")
-            self.assertEqual(json.loads(self.checked("--json").out)["kept"], ["sequential"])
-        with self.in_place(stored("order_against_time").replace(b'"sequential":"yes"', b'"sequential":"no"')):
+            self.assertEqual(ran.out.splitlines()[-1], "  it keeps causal: `regkit levels` says more")
+            self.assertEqual(json.loads(self.checked("--json").out)["kept"], ["causal"])
+        for verdict, said in (("no", "sequential"), ("unknown", "sequential")):
+            now = f'"causal":"{verdict}"'.encode()
+            changed = stored("order_against_time").replace(b'"causal":"yes"', now)
+            with self.in_place(changed):
+                last = self.checked().out.splitlines()[-1]
+                self.assertEqual(last, f"  it keeps {said}: `regkit levels` says more")
+        changed = changed.replace(b'"sequential":"yes"', b'"sequential":"no"')
+        with self.in_place(changed):
             last = self.checked().out.splitlines()[-1]
             self.assertEqual(last, "  it keeps no weaker level: `regkit levels` says more")
 

@@ -31,7 +31,8 @@ TABLES = {"div", "table", "tr", "td", "th"}
 HEADS = ["Written", "Verdict", "Run", "What came out"]
 STALE_READS: Dict[str, List[List[int]]] = {  # of the examples, by hand; the others have none
     "follower_behind": [[7, 5], [11, 5]], "lost_write": [[7, 5], [9, 5]], "own_write_missed": [[7, 5]],
-    "other_session_behind": [[7, 5]], "read_goes_back": [[7, 3]], "order_against_time": [[5, 3], [9, 3]]}
+    "other_session_behind": [[7, 5]], "read_goes_back": [[7, 3]], "order_against_time": [[5, 3], [9, 3]],
+    "answer_before_question": [[9, 1]], "news_in_both_orders": [[10, 1], [9, 3]]}
 
 
 def subject_of(events: List[Line], *rows: Dict[str, Any]) -> Subject:
@@ -48,8 +49,15 @@ def subject_of(events: List[Line], *rows: Dict[str, Any]) -> Subject:
 
 
 def of_example(name: str) -> Subject:
+    """The stale reads are listed in the line of their register."""
     data = (EXAMPLES / f"{name}.jsonl").read_bytes()
-    report = stored(name, stale_reads=STALE_READS.get(name, []))
+    history = read_history(data)
+    *rows, summary = (EXAMPLES / f"{name}.report").read_text(encoding="utf-8").splitlines()
+    told = []
+    for row in map(json.loads, rows):
+        lines = {call.line for call in history.registers[row["register"]]}
+        told.append({**row, "stale_reads": [pair for pair in STALE_READS.get(name, []) if pair[0] in lines]})
+    report = "".join(f"{each}\n" for each in (*map(json.dumps, told), summary)).encode()
     return Subject(read_history(data), read_levels(report), Places(data, read_history(data)))
 
 
@@ -70,9 +78,9 @@ class Pages(Placed):
             ran, without = run("levels", "--page", str(path), FOLLOWER), run("levels", FOLLOWER)
         self.assertEqual(ran, without)
         page = path.read_text(encoding="utf-8")
-        self.assertIn("<title>Keeps session: follower_behind.jsonl</title>", page)
+        self.assertIn("<title>Keeps session and causal: follower_behind.jsonl</title>", page)
         self.assertIn("Not linearizable or regular: 9 operations on 2 registers.", words_of(page))
-        self.assertNotIn("Keeps session; ", words_of(page))
+        self.assertNotIn("Keeps session and causal; ", words_of(page))
         for line in without.out.splitlines()[1:]:
             said = line.strip()
             self.assertIn(said[:1].upper() + said[1:] + ".", words_of(page))
@@ -200,18 +208,23 @@ class Levels(unittest.TestCase):
     def test_meanings(self) -> None:
         """Of what is broken only the weakest: the rest follows."""
         for name, said in [
-                ("follower_behind", "Kept: each session only moves forward. Broken: no read misses a write "
-                                    "that had ended."),
+                ("follower_behind", "Kept: each session only moves forward; no read misses a write that "
+                                    "it knew of. Broken: no read misses a write that had ended."),
+                ("answer_before_question",
+                 "Kept: each session only moves forward. Broken: no read misses a write that had ended; no "
+                 "read misses a write that it knew of."),
                 ("read_goes_back", "Kept: no session misses its own write. Broken: no read misses a write "
                                    "that had ended; no session goes back to an older value; all agree on one "
                                    "order of the writes."),
                 ("new_old_across_sessions", "Kept: no read misses a write that had ended; each session only "
-                                            "moves forward. Broken: each read gives the latest write.")]:
+                                            "moves forward; no read misses a write that it knew of. "
+                                            "Broken: each read gives the latest write.")]:
             self.assertIn(said, words_of(levels_page(of_example(name), "h")))
 
     def test_titles(self) -> None:
         for name, title in [("readers_disagree", "Keeps regular and read your writes"),
-                            ("order_against_time", "Keeps sequential"), ("lost_write", "Keeps session")]:
+                            ("order_against_time", "Keeps causal"),
+                            ("lost_write", "Keeps session and causal")]:
             self.assertEqual(title_of(of_example(name)), title)
 
 
@@ -457,10 +470,10 @@ class Elsewhere(Placed):
         with self.in_place(stored("order_against_time")):
             page = self.index()
         self.assertEqual(re.findall("<th>(.*?)</th>", page), [*HEADS[:3], "Keeps", *HEADS[3:]])
-        self.assertEqual(page.count("<td>sequential; gap 5 events</td>"), 2)
+        self.assertEqual(page.count("<td>causal; gap 5 events</td>"), 2)
         self.assertEqual(page.count("<td></td>") + page.count("<td/>"), 1, "of the linearizable one")
         drawn = (self.folder / "pictures" / "lost_write.html").read_text(encoding="utf-8")
-        self.assertIn("It keeps sequential: <code>regkit levels --page</code> draws more.", drawn)
+        self.assertIn("It keeps causal: <code>regkit levels --page</code> draws more.", drawn)
 
     def test_without_reglevel(self) -> None:
         with mock.patch.dict(os.environ, {"REGLEVEL": "/nowhere"}):
@@ -479,7 +492,7 @@ class Elsewhere(Placed):
         with self.in_place(stored("order_against_time")):
             status, page = self.draw()
             self.assertEqual(status, 0)
-            self.assertIn("It keeps sequential: <code>regkit levels --page</code> draws more.", page)
+            self.assertIn("It keeps causal: <code>regkit levels --page</code> draws more.", page)
             fine = text(write(1, 5), reply(1), read(1), gave(1, 5))
             self.assertNotIn("It keeps", self.draw(fine)[1])
         with mock.patch.dict(os.environ, {"REGLEVEL": "/nowhere"}):

@@ -175,16 +175,17 @@ class Shown(unittest.TestCase):
     def told(self, key: str, value: Any, name: str = "order_against_time") -> verify.Verified:
         row, summary = map(json.loads, report_of(name).splitlines())
         row.update({key: value} if key != "order" else {"order": value, "order_of": "sequential"})
+        summary.update({"causal_order": [3, 1]} if key == "order" else {})
         return verify.verify(history_of(name), f"{json.dumps(row)}\n{json.dumps(summary)}\n".encode())
 
     def test_stale_reads(self) -> None:
-        self.assertEqual(self.told("stale_reads", [[5, 3], [9, 3]]).kept, ["sequential"])
+        self.assertEqual(self.told("stale_reads", [[5, 3], [9, 3]]).kept, ["sequential", "causal"])
         for wrong in ([[5, 3]], [[9, 3], [5, 3]], [[5, 3], [9, 1]], [[5, 3], [9, 3], [9, 3]], [[5, 3], 9]):
             with self.assertRaisesRegex(verify.Wrong, r"`stale_reads` is \[\[5, 3\], \[9, 3\]\]"):
                 self.told("stale_reads", wrong)
 
     def test_orders(self) -> None:
-        self.assertEqual(self.told("order", [3, 7, 1, 5, 9]).kept, ["sequential"])
+        self.assertEqual(self.told("order", [3, 7, 1, 5, 9]).kept, ["sequential", "causal"])
         table: List[Tuple[List[Any], str]] = [
             ([1, 5, 9, 3, 7], "line 7 stands behind line 9 in an order, and has to come before it"),
             ([3, 7, 5, 1, 9], "the read of line 5 doesn't give the value of the last write"),
@@ -205,7 +206,7 @@ class Shown(unittest.TestCase):
         counts = dict.fromkeys(("stale", "own", "back", "inverted", "lost"), 0)
         row: Dict[str, Any] = {**levels, **counts, "register": "x", "pending": 2, "reads": 2, "writes": 2}
         summary = {key: row[key] for key in row if key not in ("register", "pending", "writes")}
-        summary.update(operations=4, registers=1)
+        summary.update(operations=4, registers=1, causal="yes", causal_order=[1])
         table = [([1, 5], True), ([1, 5, 3], True), ([1, 3, 5], True), ([1, 3, 5, 4], True),
                  ([1, 4, 5], False), ([3, 1, 5], False)]
         for order, holds in table:
@@ -236,13 +237,14 @@ class Shown(unittest.TestCase):
 class Holding(unittest.TestCase):
     def test_the_examples(self) -> None:
         kept = {name: verify.verify(history_of(name), report_of(name).encode()).kept for name in NAMES}
-        strongest = {"follower_behind": {"session"}, "lost_write": {"session"},
-                     "other_session_behind": {"session"}, "order_against_time": {"sequential"},
-                     "new_old_across_sessions": {"session", "regular"},
+        strongest = {"follower_behind": {"session", "causal"}, "lost_write": {"session", "causal"},
+                     "answer_before_question": {"session"}, "news_in_both_orders": {"session", "causal"},
+                     "other_session_behind": {"session", "causal"}, "order_against_time": {"causal"},
+                     "new_old_across_sessions": {"session", "regular", "causal"},
                      "own_write_missed": {"monotonic"}, "read_goes_back": {"own_writes"},
                      "readers_disagree": {"own_writes", "regular"},
                      "one_guarantee_each": {"own_writes", "monotonic", "regular"}}
-        below = {"session": {"own_writes", "monotonic", "sequential"}}
+        below = {"session": {"own_writes", "monotonic", "sequential"}, "causal": {"sequential"}}
         self.assertEqual(set(kept), set(strongest))
         for name, own in strongest.items():
             due = own.union(*(below.get(level, set()) for level in own))
@@ -260,10 +262,11 @@ class Holding(unittest.TestCase):
                 return {name: spaced(part, name) for name, part in value.items()}
             if isinstance(value, list):
                 return [spaced(part, key) for part in value]
-            is_line = key in ("earlier", "newer", "read", "seen", "first", "second", "writes", "steps")
+            is_line = key in ("earlier", "newer", "read", "seen", "first", "second", "writes", "steps",
+                              "from", "to", "knew")
             return 3 * value - 2 if is_line and value else value
 
-        for row in rows[:-1]:
+        for row in rows:
             row.update({key: spaced(part, key) for key, part in row.items() if isinstance(part, dict)})
         report = "".join(json.dumps(row) + "\n" for row in rows).encode()
         self.assertEqual(verify.verify(spread, report).kept, ["own_writes"])
@@ -275,9 +278,9 @@ class Holding(unittest.TestCase):
                  '"pending":0,"reads":1,"register":"x","regular":"no","sequential":"yes","session":"no","writes":1}\n'
                  '{"atomic":"no","back":0,"inverted":0,"lost":0,"monotonic":"no","operations":2,"own":0,'
                  '"own_writes":"no","reads":1,"registers":1,"regular":"no","sequential":"yes","session":"no",'
-                 '"stale":0,"unclean":1}\n')
+                 '"causal":"yes","stale":0,"unclean":1}\n')
         history = text(read(1), gave(1, 5), write(2, 5), reply(2))
-        self.assertEqual(verify.verify(history, early.encode()).kept, ["sequential"])
+        self.assertEqual(verify.verify(history, early.encode()).kept, ["sequential", "causal"])
         table = [('"early":{"read":1,"write":3},"mono', '"early":{"read":1,"write":1},"mono', "`write` of `early`"),
                  ('"early":{"read":1,"write":3},"mono', '"unwritten":1,"mono', "`early` is"),
                  (',"unclean":1', "", "the summary's `unclean` is 1"),
@@ -302,7 +305,8 @@ class Holding(unittest.TestCase):
         summary: Dict[str, Any] = {level: "no" for level in ("atomic", "regular", "session", "own_writes",
                                                              "monotonic", "sequential")}
         summary.update(dict.fromkeys(("stale", "own", "back", "inverted", "lost"), 0), reads=1, operations=2,
-                       registers=1, unclean=1)
+                       registers=1, unclean=1, causal="no", causal_fault={"kind": "cycle", "steps": [
+                           {"from": 1, "to": 3, "why": "process"}, {"from": 3, "to": 1, "why": "read"}]})
         rows = "".join(json.dumps(each) + "\n" for each in (row, summary)).encode()
         self.assertEqual(verify.verify(history, rows).kept, [])
         apart = text(read(1), gave(1, 5), write(2, 5), reply(2))
@@ -311,15 +315,15 @@ class Holding(unittest.TestCase):
 
     def test_an_empty_history(self) -> None:
         counts = ("stale", "own", "back", "inverted", "lost", "reads", "operations", "registers")
-        levels = dict.fromkeys(("atomic", "regular", "session", "sequential"), "yes")
+        levels = dict.fromkeys(("atomic", "regular", "session", "sequential", "causal"), "yes")
         summary: Dict[str, Any] = {**levels, **dict.fromkeys(counts, 0)}
         self.assertTrue(verify.verify(b"", json.dumps(summary).encode() + b"\n").atomic)
 
     def test_what_it_says(self) -> None:
         words = [("lost_write",
-                  "holds: keeps session; not linearizable or regular: 5 operations on 1 register\n"),
+                  "holds: keeps session and causal; not linearizable or regular: 5 operations on 1 register\n"),
                  ("readers_disagree", "holds: keeps regular and read your writes; not linearizable, session, "
-                                      "monotonic reads or sequential: 6 operations on 1 register\n")]
+                                      "monotonic reads, sequential or causal: 6 operations on 1 register\n")]
         for name, said in words:
             ran = run("verify", str(EXAMPLES / f"{name}.jsonl"), str(EXAMPLES / f"{name}.report"))
             self.assertEqual(ran, (0, said, ""))

@@ -64,14 +64,22 @@
          (if (history/unknown? error) {:exit 4} (throw error)))))
 
 (defn- not-kept
-  "The result of a history that doesn't keep the level."
+  "The result of a history that doesn't keep the level. Causal is of all registers together."
   [opts {:keys [history] :as paths} rows]
   (let [level (programs/level opts)
         lacking (filter #(= "no" ((keyword level) %)) (pop rows))]
-    (and-words {:valid? false :faulty-registers (count lacking)} paths
+    (and-words (cond-> {:valid? false} (not= "causal" level) (assoc :faulty-registers (count lacking))) paths
                #(programs/run-in {"REGLEVEL" (programs/reglevel opts)} ""
                                  (programs/regkit opts) "levels" "--color" "never" "--require" level history)
                #(drawn-by-regcheck opts paths))))
+
+(defn- level-unknown
+  "The result of a history of which reglevel gave up causal."
+  [paths]
+  {:valid? :unknown
+   :files (select-keys paths [:history :report])
+   :cause (str "causal is unknown: deciding it would take more memory or work than reglevel spends. It is "
+               "decided for fewer sessions, or a shorter run")})
 
 (defn- no
   "The result of a history that isn't linearizable."
@@ -121,7 +129,7 @@
            (case verdict
              true (yes paths events (if level (str "keeps " level) "is linearizable"))
              false (if level (not-kept opts paths rows) (no opts paths events rows))
-             :unknown (gave-up opts paths rows)
+             :unknown (if level (level-unknown paths) (gave-up opts paths rows))
              {:valid? :unknown :cause err :files (select-keys paths [:history])})
            (select-keys (peek rows) [:operations :registers :stale :own :back :inverted :lost :gap]))))
 
@@ -129,7 +137,7 @@
   "A checker of linearizability for registers. Options, none of which is needed:
 
     :require         a level, in place of being linearizable: :atomic, :regular, :session, :own-writes,
-                     :monotonic or :sequential. reglevel decides, which takes what regcheck takes
+                     :monotonic, :sequential or :causal. reglevel decides, which takes what regcheck takes
     :register        the name of the register of a history without keys; by default that of
                      jepsen.independent's key, or \"x\"
     :failed-cas      what the :fail of a :cas says. By default that it had no effect, and nothing of the

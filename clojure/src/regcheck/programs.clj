@@ -102,7 +102,7 @@
 
 (def levels
   "The words for the levels, which are the keys of the report too."
-  #{"atomic" "regular" "session" "own_writes" "monotonic" "sequential"})
+  #{"atomic" "regular" "session" "own_writes" "monotonic" "sequential" "causal"})
 
 (defn level
   "The word for the level that is required, if one is. Throws if there is no such level."

@@ -183,11 +183,24 @@
 (deftest levels
   (doseq [[level history valid?] [[:session stale true] [:regular stale false] ["own_writes" back true]
                                   [:own-writes back true] [:session back false] [:monotonic back false]
-                                  [:sequential back false] [:atomic stale false]]]
+                                  [:sequential back false] [:causal back false] [:causal stale true]
+                                  [:atomic stale false]]]
     (is (= [valid? :reglevel] ((juxt :valid? :analyzer) (judged history {:require level} {}))) level))
   (let [{:keys [completed-reads stale registers] :as result} (judged stale {:require :session} {})]
     (is (= [:session 1 1 1] [(:require result) completed-reads stale registers]))
     (is (= #{"regcheck.jsonl" "regcheck.report"} (::left result)))))
+
+(deftest causal-is-of-the-whole
+  (let [{:keys [valid? words] :as result} (judged back {:require :causal} {})]
+    (is (false? valid?))
+    (is (not (contains? result :faulty-registers)))
+    (is (str/includes? words "  required: causal, which doesn't hold\n")))
+  (let [unsure (doto (java.io.File/createTempFile "reglevel" "") (.deleteOnExit) (.setExecutable true))
+        summary "{\"atomic\":\"no\",\"causal\":\"unknown\",\"registers\":0}"
+        _ (spit unsure (str "#!/bin/sh\necho '" summary "'\nexit 6\n"))
+        {:keys [valid? cause]} (judged back {:require :causal, :reglevel (str unsure)} {})]
+    (is (= :unknown valid?))
+    (is (str/starts-with? cause "causal is unknown: deciding it would take"))))
 
 (deftest a-level-that-is-not-kept
   (let [{:keys [valid? faulty-registers back words] :as result} (judged back {:require :session} {})]
@@ -211,8 +224,8 @@
     (let [{:keys [valid? analyzer cause]} (judged history (assoc opts :require :session) {})]
       (is (= [:unknown :reglevel] [valid? analyzer]) words)
       (is (str/includes? (str cause) words))))
-  (is (thrown-with-msg? IllegalArgumentException #":causal is no level"
-                        (regcheck/checker {:require :causal}))))
+  (is (thrown-with-msg? IllegalArgumentException #":eventual is no level"
+                        (regcheck/checker {:require :eventual}))))
 
 (deftest a-folder-is-no-program
   (let [folder (.toFile (Files/createTempDirectory "regcheck-" (make-array FileAttribute 0)))

@@ -5,22 +5,23 @@ from typing import NamedTuple, Sequence, Union
 
 from regkit.base.limits import MAX_EVENTS
 from regkit.base.statuses import ExitStatus
-from regkit.checker.levels import LEVELS, kept
+from regkit.checker.levels import CAUSAL, REQUIRED, status_of
 from regkit.checker.programs import CHECK, LEVEL, SEARCH
 from regkit.commands.stopping import complain
 from regkit.parts.answers import (STATUSES, Answered, PartOutcome, RefusedPart, Unanswered, command_again,
                                   outcomes)
 from regkit.parts.folder import Manifest, NotSplit, read_manifest
 from regkit.parts.joining import verdict_of, write_report
+from regkit.words.phrases import joined
 from regkit.words.progress import Progress
 
 HELP = "join the reports of the parts of a split history into the report of the whole"
 EPILOG = """\
 DIR is a folder that regkit split made, in which every part was checked: part-NNN.report, part-NNN.err and
 part-NNN.status are beside part-NNN.jsonl. The report is, byte for byte, the one that one run over the whole
-history would write: of regcheck, or of regsearch or reglevel if that checked every part. Of reglevel it has
-no gaps: these count events, and a part has not all of them. docs/scale.md says more: it is in the repository,
-and in share/doc/regcheck of a release.
+history would write: of regcheck, or of regsearch or reglevel if that checked every part. Of reglevel it lacks
+the gaps, which count events, and causal, which is of all registers together: a part has not all of them.
+docs/scale.md says more: it is in the repository, and in share/doc/regcheck of a release.
 
 examples:
   regkit join parts > history.report
@@ -36,6 +37,8 @@ exit status:
   6  some part is unknown, and no part is known not to be atomic
 """
 
+WITHOUT_CAUSAL = "the report says nothing of causal, which is of all registers together"
+
 
 def add_arguments(parser: argparse.ArgumentParser) -> None:
     parser.add_argument("directory", metavar="DIR", help="the folder of the parts")
@@ -43,9 +46,9 @@ def add_arguments(parser: argparse.ArgumentParser) -> None:
                         help="whether the summary has the merged order of all registers; auto, the default, "
                              f"is yes up to {MAX_EVENTS} events, as many as one run takes; a report of "
                              "regsearch or reglevel has none")
-    parser.add_argument("--require", choices=LEVELS,
-                        help="of reports of reglevel: the level on which the exit status depends (default "
-                             "atomic)")
+    parser.add_argument("--require", choices=REQUIRED, metavar="LEVEL",
+                        help="of reports of reglevel: the level on which the exit status depends, "
+                             f"{joined(REQUIRED, 'or')} (default atomic); causal only of a history in one part")
 
 
 def run(arguments: argparse.Namespace) -> int:
@@ -110,14 +113,18 @@ def write(parts: list[Answered], manifest: Manifest, arguments: argparse.Namespa
     if program != LEVEL and level:
         return complain("join", f"a report of {program} has no levels: leave out --require, or split with "
                         "--levels", ExitStatus.COMMAND_LINE)
+    if program == LEVEL and level == CAUSAL and len(parts) > 1:
+        return complain("join", "causal is of all registers together, and doesn't come together from parts: "
+                        "give reglevel the whole history", ExitStatus.COMMAND_LINE)
     with_order = order == "always" or (order == "auto" and manifest.events <= MAX_EVENTS)
     with Progress() as progress:
         progress.step("joining", len(manifest.registers))
         write_report(parts, manifest, with_order and program == CHECK, sys.stdout.buffer, progress.reach)
-    if program == LEVEL:
-        is_kept = all((level or "atomic") in kept(part.summary) for part in parts)
-        return ExitStatus.ATOMIC if is_kept else ExitStatus.NOT_ATOMIC
-    return STATUSES[verdict_of(parts)]
+    if program != LEVEL:
+        return STATUSES[verdict_of(parts)]
+    if len(parts) > 1:
+        print(f"regkit join: {WITHOUT_CAUSAL}", file=sys.stderr)
+    return max(status_of(part.summary, level or "atomic") for part in parts)
 
 
 def ask_to_run_again(directory: str, parts: Sequence[Again], program: str) -> int:

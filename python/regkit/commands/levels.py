@@ -8,7 +8,7 @@ from typing import NamedTuple, Optional
 
 from regkit.base.garbage import many_objects
 from regkit.base.statuses import ExitStatus
-from regkit.checker.levels import DISTINCT, LEVELS, Levels, kept, levels_in
+from regkit.checker.levels import DISTINCT, REQUIRED, Levels, levels_in
 from regkit.checker.programs import Answer, NoChecker, judge_levels
 from regkit.commands.stopping import Stop, complain
 from regkit.explain.advice import advice
@@ -22,8 +22,10 @@ from regkit.levels.account import account, heading, required
 from regkit.levels.subject import Places, Subject
 from regkit.pictures.page import levels_page
 from regkit.words.colour import CHOICES, painter
+from regkit.words.phrases import joined
 from regkit.words.progress import Progress
 from regkit.words.quoting import plain
+from regkit.words.verdicts import STYLES
 
 HELP = "say which weaker guarantees a history kept, and how old its reads were"
 EPILOG = """\
@@ -40,15 +42,17 @@ It asks reglevel, which takes the histories that regcheck takes. docs/levels.md 
   own_writes  writes in real time; no session misses a write of its own (read your writes)
   monotonic   writes in real time; no session goes back to an older value (monotonic reads)
   sequential  each session in order, and all agree on one order of the writes
+  causal      of all registers together: who knows of a write, by whatever it read, doesn't miss it
 
 A session is a process. Times are those of the lines, if they have them; otherwise ages are counted in events.
 
-exit status, of several histories the first in the order 4, 3, 2, 1, 0:
-  0  each register keeps the required level
-  1  one doesn't
+exit status, of several histories the first in the order 4, 3, 2, 1, 6, 0:
+  0  the required level was kept: by each register, or if it is causal, by the whole history
+  1  it wasn't
   2  refused: the input is no history that reglevel takes; standard error says what to do
   3  wrong command line
   4  input, memory, output or reglevel failed
+  6  causal is required, and unknown: the history has too many sessions for its length
 """
 
 
@@ -62,8 +66,9 @@ class Found(NamedTuple):
 
 def add_arguments(parser: argparse.ArgumentParser) -> None:
     parser.add_argument("files", metavar="FILE", nargs="*", help="histories; - or none is standard input")
-    parser.add_argument("--require", choices=LEVELS,
-                        help="the level on which the exit status depends (default atomic)")
+    parser.add_argument("--require", choices=REQUIRED, metavar="LEVEL",
+                        help=f"the level on which the exit status depends: {joined(REQUIRED, 'or')} (default "
+                             "atomic)")
     parser.add_argument("--page", metavar="FILE.html", type=pathlib.Path,
                         help="also draw the levels, the stale reads and the faults of one history on a page")
     parser.add_argument("--color", choices=CHOICES, default="auto",
@@ -124,8 +129,7 @@ def told_of(name: str, arguments: argparse.Namespace, progress: Progress) -> int
     if arguments.page:
         write_page(arguments.page, page)
     paint = painter(arguments.color, sys.stdout)
-    whole = heading(kept(levels.summary), levels.summary["operations"], levels.summary["registers"])
-    said = paint("good" if found.answer.status == ExitStatus.ATOMIC else "bad", whole)
+    said = paint(STYLES[found.answer.status], heading(levels.summary))
     asked = [required(levels, level)] if level else []
     told = [f"  {plain(line)}" for line in found.told]
     progress.say("\n".join([f"{label}: {said}", *asked, *lines, *told]), sys.stdout)

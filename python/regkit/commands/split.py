@@ -61,7 +61,8 @@ def add_arguments(parser: argparse.ArgumentParser) -> None:
     parser.add_argument("--parts", metavar="N", type=part_count, required=True,
                         help=f"how many, 1 to {MAX_PARTS}: the number of events divided by 700,000, or more")
     parser.add_argument("--levels", action="store_true",
-                        help="let the parts be checked by reglevel, for which levels each register kept")
+                        help="let the parts be checked by reglevel, for which levels each register kept; "
+                             "causal, which is of all registers together, gets lost")
     parser.add_argument("--lines", choices=["auto", BLANK, MAP], default="auto",
                         help="what keeps the line numbers of the whole: blank lines in each part, or a map "
                              "beside it; auto, the default, is blank lines up to 1 GiB of history, and a map "

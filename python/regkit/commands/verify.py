@@ -27,7 +27,8 @@ Of a report of regsearch a no is searched again, in a plain way that shares noth
 take too long, the line says so, and the status is 6. Which calls were open at the reply is looked up (`asks`).
 
 Of a report of reglevel each cycle of a no is checked, each count, each first read, and the gap from both sides.
-A yes is replayed along its order, or along one that is built here if the report gives none.
+A yes is replayed along its order, or along one that is built here if the report gives none. So is that of causal,
+by who knew of what; with very many sessions that would take too long, and the status is 6.
 
 The report may be an early answer (regcheck --first). It gives no order of the registers before the one that
 it names, so orders are built here, and replayed.
@@ -41,7 +42,8 @@ exit status:
   2  the report is none of regcheck, regsearch or reglevel, or says nothing of the history
   3  the command line is wrong
   4  a file couldn't be read
-  6  each claim that was checked holds, but a no of regsearch would take too long to search again
+  6  each claim that was checked holds, but a no of regsearch would take too long to search again, or that the
+     history is causal
 """
 
 REFUSALS = (".err", ".refusal")  # what a file with a refusal is called
@@ -66,14 +68,15 @@ def run(arguments: argparse.Namespace) -> int:
         return ExitStatus.COMMAND_LINE
     try:
         found = verified(arguments)
-        print(f"{'holds' if not found.nos.unsearched else 'not all checked'}: {in_words(found)}")
+        open_end = bool(found.nos.unsearched or found.unchecked)
+        print(f"{'not all checked' if open_end else 'holds'}: {in_words(found)}")
     except verify.Unreadable as wrong:
         print(f"regkit verify: {wrong}", file=sys.stderr)
         return ExitStatus.REFUSED
     except verify.Wrong as wrong:
         print(f"doesn't hold: {wrong}")
         return ExitStatus.WRONG
-    return ExitStatus.UNKNOWN if found.nos.unsearched else ExitStatus.DONE
+    return ExitStatus.UNKNOWN if open_end else ExitStatus.DONE
 
 
 def verified(arguments: argparse.Namespace) -> verify.Verified:
@@ -105,8 +108,9 @@ def in_words(found: verify.Verified) -> str:
         return f"the history is refused{' by regsearch' if found.by_search else ''}: {found.refusal}"
     if not found.registers:
         return "linearizable, since the history has no operation"
-    if found.kept is not None:
-        return heading(found.kept, found.operations, found.registers)
+    if found.summary is not None:
+        unchecked = "; that it is causal would take too long to check" if found.unchecked else ""
+        return heading(found.summary) + unchecked
     size = f"{counted(found.operations, 'operation')} on {counted(found.registers, 'register')}"
     if found.early:
         return f"{'linearizable' if found.atomic else 'not linearizable'}, by an early answer: {size}"

@@ -96,5 +96,6 @@ def bar_of(operation: Operation, marks: Marks, process: str = "", place: str = "
     """The bar of an operation. A crash ends no operation: what it leaves open is drawn to the right edge."""
     begin = operation.line if operation.line else INITIAL_CALL
     end = None if operation.pending else operation.end_line
-    return Bar(operation, begin, end, label_of(operation), process, place, marks.cluster_of(operation),
+    label = marks.prefix_of(operation) + label_of(operation)
+    return Bar(operation, begin, end, label, process, place, marks.cluster_of(operation),
                signs_of(operation, marks), operation.line in marks.named)

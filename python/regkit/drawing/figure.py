@@ -24,6 +24,8 @@ INSET = 3.0  # of an arrow's foot and head from the ends of their bars
 
 def arrow_label(arrow: Arrow) -> str:
     """Which value an arrow puts before which; if it is one value, which operation before which."""
+    if arrow.label:
+        return arrow.label
     before, after = value_of(arrow.before), value_of(arrow.after)
     if before == after:
         return f"{label_of(arrow.before)} \u2192 {label_of(arrow.after)}"
@@ -92,8 +94,9 @@ class Figure:
         if self.scene.left_out:
             parts.append(self.below("overview", overview(self.scene, self.history, self.lanes_end)))
         size = f"0 0 {svg.number(self.width)} {svg.number(self.height)}"
+        across = {"data_across": "registers"} if self.scene.marks.across else {}
         return tag("svg", "".join(parts), width=self.width, height=self.height, viewBox=size, role="img",
-                   aria_label=label, data_from=self.gutter, data_to=self.width - RIGHT)
+                   aria_label=label, data_from=self.gutter, data_to=self.width - RIGHT, **across)
 
     def below(self, name: str, parts: list[str]) -> str:
         """What stands below the lanes and counts its places from the axis on."""
@@ -128,9 +131,12 @@ class Figure:
         return self.gutter + self.scene.axis.end_at(line)
 
     def feet(self, arrow: Arrow) -> tuple[float, float]:
-        """Where an arrow leaves its row: above the end of the one bar and the beginning of the other."""
-        end = arrow.before.end_line if arrow.before.line else 0
-        return self.place(end or 0) - INSET, self.place(arrow.after.line) + INSET
+        """Where an arrow leaves its row: above the end of the one bar, or its beginning if it never ends, and
+        the beginning of the other."""
+        before, head = arrow.before, self.place(arrow.after.line) + INSET
+        if before.pending:
+            return self.place(before.line) + INSET, head
+        return self.place(before.end_line or 0) - INSET, head
 
     def row(self, arrow: Arrow) -> float:
         return self.arrows_top + ARROW_ROW * (arrow.number - 0.5)
@@ -147,7 +153,8 @@ class Figure:
             row, foot, head = self.row(arrow), self.top_of(arrow.before.line), self.top_of(arrow.after.line)
             line = tag("path", class_=f"arrow {arrow.cluster}",
                        d=shapes.path("M", left, foot, "V", row, "H", right, "V", head - 5))
-            words = svg.title(capital(precedence(arrow.before, arrow.after)) + ".")
+            why = arrow.why or precedence(arrow.before, arrow.after)
+            words = svg.title(capital(why) + ".")
             parts += [text(self.gutter - 12, row + 4, arrow_label(arrow), "gutter"), tag("g", line + words)]
         return parts
 

@@ -36,6 +36,7 @@ def signs_of(scene: Scene) -> set[str]:
             found.add(bar.cluster)
         if bar.operation.line in scene.register.points:
             found.add("point")
+    found |= {"reason" for arrow in scene.marks.arrows if arrow.why}
     return found | ({"arrow"} if scene.marks.arrows else set()) | ({"zone"} if scene.marks.zones else set())
 
 
@@ -53,7 +54,7 @@ def entries(found: set[str]) -> list[str]:
         ("first", sample("first"), "one value"),
         ("second", sample("second"), "another value" if "third" in found else "the other value"),
         ("third", sample("third"), "a third value"), ("fourth", sample("fourth"), "a fourth value"),
-        ("arrow", sign_alone(arrow, 36), "ended before"),
+        ("arrow", sign_alone(arrow, 36), "has to come before" if "reason" in found else "ended before"),
         ("zone", sign_alone(zone, WIDTH), "zone of a value, explained below the picture"),
         ("unexplained", sign_alone(shapes.exclamation(9, 11)), "first unexplained read"),
         ("contradicted", sign_alone(shapes.exclamation(9, 11)), "no order gives its reply"),

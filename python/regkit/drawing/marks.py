@@ -1,6 +1,6 @@
 """What a picture points at: the two clusters that contradict each other, the precedences between them, the
 first read that can't be explained, the writes that were open beside it, and a stale read and a fresh one."""
-from typing import NamedTuple, Optional
+from typing import Hashable, NamedTuple, Optional
 
 from regkit.checker.report import Row
 from regkit.explain.causes import StalePair, stale_pair
@@ -13,12 +13,14 @@ FIRST, SECOND = "first", "second"  # the two clusters, by the numbers of the arr
 
 
 class Arrow(NamedTuple):
-    """One operation ended before another began."""
+    """One operation comes before another: mostly since it ended before that began."""
 
     before: Operation
     after: Operation
     cluster: str  # of `before`
     number: int
+    label: str = ""  # beside it, if not the two values
+    why: str = ""  # if it didn't end before
 
 
 class Zone(NamedTuple):
@@ -34,8 +36,10 @@ class Zone(NamedTuple):
 class Marks:
     """What one picture points at."""
 
+    across = False  # whether the picture is of several registers
+
     def __init__(self) -> None:
-        self.clusters: dict[Optional[int], str] = {}  # value -> cluster
+        self.clusters: dict[Hashable, str] = {}  # value -> cluster
         self.named: dict[int, Operation] = {}  # by line, the operations that the contradiction rests on
         self.arrows: list[Arrow] = []
         self.zones: list[Zone] = []
@@ -55,7 +59,15 @@ class Marks:
         that missed."""
         if operation.failed or operation.missed or (operation.kind == "read" and not operation.completed):
             return ""
-        return self.clusters.get(operation.value, "")
+        return self.clusters.get(self.key_of(operation), "")
+
+    def key_of(self, operation: Operation) -> Hashable:
+        """By what operations are of one cluster."""
+        return operation.value
+
+    def prefix_of(self, operation: Operation) -> str:
+        """What stands before the label of its bar."""
+        return ""
 
     def add_pairs(self, pairs: list[tuple[Operation, Operation]]) -> None:
         for number, (pair, cluster) in enumerate(zip(pairs, (FIRST, SECOND)), 1):

@@ -332,6 +332,7 @@ function links(found, go) {
 
 /** The order whose operations a picture shows, if there is one. */
 function orderOf(picture) {
+  if ('across' in picture.svg.dataset) return undefined; // an order is of one register
   const lines = new Set(picture.things.map(lineOf));
   return known.orders.find(order => order.steps.some(([line]) => lines.has(line)));
 }
@@ -481,7 +482,8 @@ class Walk {
 
   /** The bars and points of all pictures of the order. */
   partsOfOrder(places) {
-    return this.pictures.filter(picture => picture.things.some(thing => places.has(lineOf(thing))))
+    const isOfOrder = picture => picture.things.some(thing => places.has(lineOf(thing)));
+    return this.pictures.filter(picture => orderOf(picture) !== undefined && isOfOrder(picture))
       .flatMap(picture => [...picture.svg.querySelectorAll('[data-line]')]);
   }
 

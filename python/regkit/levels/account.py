@@ -1,8 +1,10 @@
 """What a run kept, as lines for people."""
 from typing import Sequence
 
-from regkit.checker.levels import LEVELS, Levels, kept, strongest
+from regkit.checker.levels import CAUSAL, Levels, is_unknown, kept, lacking, strongest
+from regkit.checker.report import Row
 from regkit.levels.ages import gap_in_words
+from regkit.levels.causal import UNKNOWN, causal_fault
 from regkit.levels.counts import counts, uncounted
 from regkit.levels.faults import faults
 from regkit.levels.guesses import guess
@@ -14,20 +16,21 @@ from regkit.words.quoting import quoted
 MOST_NAMED = 6  # registers
 
 
-def below_title(found: Sequence[str], operations: int, registers: int) -> str:
-    """The levels that some registers didn't keep, and how much there is of the history."""
-    size = f"{counted(operations, 'operation')} on {counted(registers, 'register')}"
-    if "atomic" in found:
+def below_title(summary: Row) -> str:
+    """The levels that weren't kept, and how much there is of the history."""
+    size = f"{counted(summary['operations'], 'operation')} on {counted(summary['registers'], 'register')}"
+    if summary["atomic"] == "yes":
         return f"it keeps every level: {size}"
-    return f"not {in_words([level for level in LEVELS if level not in found], 'or')}: {size}"
+    unknown = "; causal is unknown" if is_unknown(summary, CAUSAL) else ""
+    return f"not {in_words(lacking(summary), 'or')}{unknown}: {size}"
 
 
-def heading(found: Sequence[str], operations: int, registers: int) -> str:
-    """The same, after the levels that all registers kept."""
-    rest = below_title(found, operations, registers)
-    if "atomic" in found:
+def heading(summary: Row) -> str:
+    """The same, after the levels that were kept."""
+    rest = below_title(summary)
+    if summary["atomic"] == "yes":
         return f"linearizable, so {rest}"
-    return f"keeps {in_words(strongest(found)) or 'no level'}; {rest}"
+    return f"keeps {in_words(strongest(kept(summary))) or 'no level'}; {rest}"
 
 
 def some(registers: Sequence[str]) -> str:
@@ -53,12 +56,16 @@ def groups(levels: Levels) -> list[str]:
 
 
 def required(levels: Levels, level: str) -> str:
-    """Whether each register kept the level that was asked for."""
-    lacking = [row["register"] for row in levels.rows if level not in kept(row)]
-    if not lacking:
+    """Whether the level that was asked for was kept, and which registers didn't keep it."""
+    if is_unknown(levels.summary, level):
+        return f"  required: {WORDS[level]}, which is unknown"
+    if level in kept(levels.summary):
         return f"  required: {WORDS[level]}, and that holds"
-    return (f"  required: {WORDS[level]}, which doesn't hold of {len(lacking):,} of "
-            f"{counted(len(levels.rows), 'register')}: {some(lacking)}")
+    if level == CAUSAL:
+        return f"  required: {WORDS[level]}, which doesn't hold"
+    broken = [row["register"] for row in levels.rows if level not in kept(row)]
+    return (f"  required: {WORDS[level]}, which doesn't hold of {len(broken):,} of "
+            f"{counted(len(levels.rows), 'register')}: {some(broken)}")
 
 
 def account(subject: Subject) -> list[str]:
@@ -67,5 +74,6 @@ def account(subject: Subject) -> list[str]:
     if levels.summary["atomic"] == "yes":
         return []
     lines = [*groups(levels), gap_in_words(subject), *uncounted(subject), *counts(subject), *faults(subject),
+             *causal_fault(subject), UNKNOWN if is_unknown(levels.summary, CAUSAL) else "",
              guess(levels.summary)]
     return [f"  {line}" for line in lines if line]

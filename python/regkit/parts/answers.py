@@ -9,7 +9,7 @@ from contextlib import suppress
 from typing import Callable, Iterator, NamedTuple, Optional, Union
 
 from regkit.base.statuses import ExitStatus
-from regkit.checker.levels import LEVELS, kept
+from regkit.checker.levels import CAUSAL, LEVELS, kept
 from regkit.checker.programs import CHECK, LEVEL, SEARCH, find_program
 from regkit.checker.refusals import (BAD_OP, REPEATED, SEARCH_TEXTS, TEXTS, Refusal, read_refusal,
                                      same_line)
@@ -114,7 +114,8 @@ def program_of_report(row: Row, is_register: bool) -> str:
 def verdicts_of(summary: Row, program: str) -> set[str]:
     """What a program's exit status may say with this summary. That of reglevel is of any level."""
     if program == LEVEL:
-        return {"yes" if level in kept(summary) else "no" for level in LEVELS}
+        causal = [summary[CAUSAL]] if CAUSAL in summary else []
+        return {*("yes" if level in kept(summary) else "no" for level in LEVELS), *causal}
     return {summary["atomic"]}
 
 

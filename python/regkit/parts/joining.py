@@ -4,7 +4,7 @@ from array import array
 from contextlib import ExitStack
 from typing import Any, BinaryIO, Callable, Iterator, Optional, Sequence
 
-from regkit.checker.levels import HALVES, LEVELS, kept
+from regkit.checker.levels import CAUSAL, HALVES, LEVELS, kept
 from regkit.checker.programs import LEVEL
 from regkit.checker.refusals import same_line
 from regkit.checker.report import Row
@@ -16,6 +16,7 @@ LINE_KEYS = {"fault", "inversion", "order", "points", "regular_read", "safe_read
              "gap", "stale_reads", "stale_read", "own_read", "back_read", "inverted_read", "lost_write",
              *(f"{level}_fault" for level in ("session", *HALVES, "sequential"))}
 NO_LINES = {"kind", "events"}  # the keys within these whose values are none
+OF_THE_WHOLE = (CAUSAL, f"{CAUSAL}_fault", f"{CAUSAL}_order")  # they don't come together from parts
 SUMS = ("back", "inverted", "lost", "operations", "own", "reads", "registers", "stale")
 GRAVITY = ("no", "unknown", "yes")  # of the parts' verdicts, the first that there is is that of the whole
 
@@ -57,7 +58,7 @@ def write_report(parts: Sequence[Answered], manifest: Manifest, with_order: bool
             out.write(row)
             reach(done)
     if parts[0].program == LEVEL:
-        out.write(text_of(levels_summary([part.summary for part in parts])))
+        out.write(text_of(levels_summary(parts)))
         out.flush()
         return
     operations = sum(part.summary["operations"] for part in parts)
@@ -74,8 +75,9 @@ def without_gaps(parts: Sequence[Answered]) -> bool:
     return parts[0].program == LEVEL and len(parts) > 1
 
 
-def levels_summary(summaries: Sequence[Row]) -> Row:
-    """The summary of reglevel for the whole."""
+def levels_summary(parts: Sequence[Answered]) -> Row:
+    """The summary of reglevel for the whole. Of several parts it says nothing of causal."""
+    summaries = [part.summary for part in parts]
     found: Row = {key: sum(summary[key] for summary in summaries) for key in SUMS}
     found.update({level: "yes" if all(level in kept(summary) for summary in summaries) else "no"
                   for level in LEVELS})
@@ -84,8 +86,10 @@ def levels_summary(summaries: Sequence[Row]) -> Row:
     unclean = sum(summary.get("unclean", 0) for summary in summaries)
     if unclean:
         found["unclean"] = unclean
-    if len(summaries) == 1 and "gap" in summaries[0]:
-        found["gap"] = summaries[0]["gap"]
+    if len(summaries) == 1:
+        found.update({key: relined(summaries[0][key], parts[0].line_of)
+                      for key in OF_THE_WHOLE if key in summaries[0]})
+        found.update({key: summaries[0][key] for key in ("gap",) if key in summaries[0]})
     return dict(sorted(found.items()))
 
 

@@ -9,4 +9,5 @@
 - `timeline.py`: the picture of these.
 - `reasons.py`: why a register didn't keep a level.
 - `faults.py`: the pictures of these reasons.
+- `causal.py`: the picture of why the history isn't causal.
 - `page.py`: all of this together."""

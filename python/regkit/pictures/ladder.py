@@ -1,5 +1,8 @@
 """The levels as they lie above one another, from the strongest at the left, with what held."""
-from regkit.checker.levels import LEVELS, Levels, kept
+from typing import Optional
+
+from regkit.checker.levels import CAUSAL, REQUIRED, Levels, kept, lacking
+from regkit.checker.report import Row
 from regkit.drawing import shapes, svg
 from regkit.drawing.svg import tag, text
 from regkit.pictures.canvas import Size, figure
@@ -9,19 +12,22 @@ from regkit.words.phrases import counted
 BOX = Size(300.0, 60.0)
 COLUMN, ROW = 370.0, 74.0
 PLACES = {"atomic": (0, 0.0), "regular": (1, 0.0), "session": (1, 2.0),  # column and row
-          "own_writes": (2, 1.0), "monotonic": (2, 2.0), "sequential": (2, 3.0)}
+          "own_writes": (2, 1.0), "monotonic": (2, 2.0), "sequential": (2, 3.0), "causal": (1, 3.0)}
 STEPS = (("atomic", "regular"), ("atomic", "session"), ("session", "own_writes"), ("session", "monotonic"),
-         ("session", "sequential"))
+         ("session", "sequential"), ("atomic", "causal"), ("causal", "sequential"))
 MARGIN = 3.0
 WHOLE = Size(2 * COLUMN + BOX.width + 2 * MARGIN, 3 * ROW + BOX.height + 2 * MARGIN)
 MEANINGS = {
     "atomic": "each read gives the latest write", "regular": "no read misses a write that had ended",
     "session": "each session only moves forward", "own_writes": "no session misses its own write",
     "monotonic": "no session goes back to an older value",
-    "sequential": "all agree on one order of the writes"}
+    "sequential": "all agree on one order of the writes",
+    "causal": "no read misses a write that it knew of"}
 CAPTION = ("Kept means that this run shows nothing against it; another run may. Each level implies those "
            "that its arrows lead to. The name in brackets is the one that --require takes. A register is a "
-           "key. A session is a process of the history: one client, which waits for each reply.")
+           "key. A session is a process of the history: one client, which waits for each reply. Causal is of "
+           "all registers together: an operation knows of what its session did before, of the write whose "
+           "value it read, and of what these knew of.")
 
 
 def corner(level: str) -> tuple[float, float]:
@@ -29,21 +35,31 @@ def corner(level: str) -> tuple[float, float]:
     return MARGIN + COLUMN * column, MARGIN + ROW * row
 
 
+def whether_causal(summary: Row) -> str:
+    """What the box of causal says below its meaning."""
+    said = {"yes": "kept, by all registers together", "no": "not kept", "unknown": "unknown: it was given up"}
+    return said.get(summary.get(CAUSAL, ""), "not told")
+
+
 def how_many(levels: Levels, level: str) -> str:
     """How many registers kept a level."""
-    lacking = sum(level not in kept(row) for row in levels.rows)
+    if level == CAUSAL:
+        return whether_causal(levels.summary)
+    broken = sum(level not in kept(row) for row in levels.rows)
     if len(levels.rows) <= 1:
-        return "not kept" if lacking else "kept"
-    if not lacking:
+        return "not kept" if broken else "kept"
+    if not broken:
         all_of_them = "both" if len(levels.rows) == 2 else f"all {len(levels.rows):,}"
         return f"kept by {all_of_them} registers"
-    if lacking == len(levels.rows):
+    if broken == len(levels.rows):
         return "kept by no register"
-    return f"not kept by {lacking:,} of {len(levels.rows):,} registers"
+    return f"not kept by {broken:,} of {len(levels.rows):,} registers"
 
 
-def sign(x: float, y: float, held: bool) -> str:
-    """A tick in a disc, or a cross."""
+def sign(x: float, y: float, held: Optional[bool]) -> str:
+    """A tick in a disc, or a cross. Nothing if it isn't known."""
+    if held is None:
+        return ""
     if held:
         return shapes.tick(x, y)
     return tag("circle", class_="broken-disc", cx=x, cy=y, r=7) + tag(
@@ -56,13 +72,22 @@ def name(level: str, x: float, y: float) -> str:
     return tag("text", WORDS[level] + other, class_="level-name", x=x, y=y)
 
 
-def box(levels: Levels, level: str, held: bool) -> str:
+def is_kept(levels: Levels, level: str) -> Optional[bool]:
+    """None if it isn't known, as may be of causal."""
+    if level == CAUSAL and levels.summary.get(CAUSAL) not in ("yes", "no"):
+        return None
+    return level in kept(levels.summary)
+
+
+def box(levels: Levels, level: str) -> str:
+    held = is_kept(levels, level)
     left, top = corner(level)
     content = [tag("rect", x=left, y=top, width=BOX.width, height=BOX.height, rx=5),
                sign(left + 18, top + 16, held), name(level, left + 34, top + 20),
                text(left + 34, top + 36, MEANINGS[level], "level-meaning"),
                text(left + 34, top + 51, how_many(levels, level), "level-note")]
-    return tag("g", "".join(content), class_="level kept" if held else "level lacking")
+    state = {True: "kept", False: "lacking", None: "unknown"}[held]
+    return tag("g", "".join(content), class_=f"level {state}")
 
 
 def step(stronger: str, weaker: str) -> str:
@@ -77,10 +102,9 @@ def step(stronger: str, weaker: str) -> str:
 
 def ladder(levels: Levels) -> str:
     """The picture of the whole history."""
-    held = [level for level in LEVELS if not levels.rows or level in kept(levels.summary)]
-    lacking = [level for level in LEVELS if level not in held]
+    held, broken = kept(levels.summary), lacking(levels.summary)
     parts = [step(*pair) for pair in STEPS]
-    parts += [box(levels, level, level in held) for level in LEVELS]
-    said = [f"kept: {in_words(held)}"] * bool(held) + [f"not kept: {in_words(lacking)}"] * bool(lacking)
+    parts += [box(levels, level) for level in REQUIRED]
+    said = [f"kept: {in_words(held)}"] * bool(held) + [f"not kept: {in_words(broken)}"] * bool(broken)
     label = f"The levels that {counted(len(levels.rows), 'register')} kept; {'; '.join(said)}"
     return figure([tag("g", svg.title(label) + "".join(parts))], WHOLE, label, CAPTION)

@@ -1,7 +1,7 @@
 """The page: what held in words, the ladder, how old stale reads were and when they came, and the faults."""
 from typing import Sequence
 
-from regkit.checker.levels import LEVELS, WEAKER, kept, strongest
+from regkit.checker.levels import WEAKER, kept, lacking, strongest
 from regkit.checker.report import Row
 from regkit.drawing.legend import legend
 from regkit.drawing.page import CROSS, STRIPES, TICK, document, listed, verdict_icon
@@ -12,6 +12,7 @@ from regkit.levels.account import account, below_title
 from regkit.levels.ages import oldest_first, stale_reads
 from regkit.levels.subject import Subject
 from regkit.pictures.bursts import bursts_of
+from regkit.pictures.causal import causal_sections
 from regkit.pictures.faults import Section, section
 from regkit.pictures.histogram import histogram
 from regkit.pictures.ladder import MEANINGS, ladder
@@ -44,10 +45,10 @@ def top(subject: Subject, title: str) -> str:
 def meaning(subject: Subject) -> str:
     """What the run kept and what it broke, for readers who don't know the names of the levels. A level that
     is broken since a weaker one is isn't named."""
-    held = kept(subject.levels.summary)
+    held, broken = kept(subject.levels.summary), set(lacking(subject.levels.summary))
     good = [MEANINGS[level] for level in strongest(held)]
-    weakest = [level for level in LEVELS if level not in held and set(WEAKER.get(level, ())) <= set(held)]
-    bad = [MEANINGS[level] for level in weakest]
+    bad = [meaning for level, meaning in MEANINGS.items()
+           if level in broken and not broken & {*WEAKER.get(level, ())}]
     said = [f"Kept: {'; '.join(good)}."] * bool(good) + [f"Broken: {'; '.join(bad)}."] * bool(bad)
     return " ".join(said)
 
@@ -56,7 +57,7 @@ def told(subject: Subject, more: Sequence[str]) -> str:
     """What `regkit levels` says, but for what the title has. A line that is indented says more of the one
     before it."""
     summary = subject.levels.summary
-    first = below_title(kept(summary), summary["operations"], summary["registers"])
+    first = below_title(summary)
     items = [tag("p", words(f"{capital(first)}."), class_="sub"), tag("p", words(meaning(subject)))]
     for line in [*account(subject), *(f"  {each}" for each in more)]:
         said = with_code(capital(line.strip()) + ".")
@@ -94,7 +95,7 @@ def faults(subject: Subject, sections: list[Section], rest: list[str]) -> str:
 def levels_page(subject: Subject, title: str, more: Sequence[str] = ()) -> str:
     """The page of a history by the name of its file. `more` is what there is to say of that file."""
     broken = broken_rows(subject)
-    sections = [section(subject, row) for row in broken[:MOST]]
+    sections = [*causal_sections(subject), *(section(subject, row) for row in broken[:MOST])]
     rest = [row["register"] for row in broken[MOST:]]
     body = [STRIPES, top(subject, title), told(subject, more), tag("h2", "The levels"),
             ladder(subject.levels), staleness(subject), table(subject), faults(subject, sections, rest)]

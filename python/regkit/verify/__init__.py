@@ -12,9 +12,12 @@ JSON, the numbers of `regkit/base/limits.py`, and the guard of `regkit/base/garb
 - `searches.py`: the same of regsearch. A no is searched again, up to a bound.
 - `levels.py`: the same of reglevel. `guarantees.py` has what each level asks of an order, `clusters.py` the
   orders that are built where the report gives none, `old_reads.py` the counts, and `gap.py` the gap.
+- `causal.py`: what the summary of reglevel says of all registers together. `knowledge.py` has who knows of
+  what.
 
 Time is counted in lines. An operation lasts from the line of its call to the line of its reply; one precedes
-another if its reply comes before the other's call. Checking n events takes n log n steps.
+another if its reply comes before the other's call. Checking n events takes n log n steps; that they are
+causal, n times the number of sessions.
 
 What isn't checked:
 
@@ -50,7 +53,9 @@ class Verified(NamedTuple):
     by_search: bool = False  # the report, or the refusal, is one of regsearch
     early: bool = False  # the report is an early answer: it has the line of the first such register at most
     refusal: str = ""
-    kept: Optional[Sequence[str]] = None  # of a report of reglevel, the levels that every register keeps
+    kept: Optional[Sequence[str]] = None  # of a report of reglevel, the levels that are kept
+    summary: Optional[Row] = None  # of such a report
+    unchecked: bool = False  # it would take too long to check that the history is causal, as the report says
 
 
 def verify(history: bytes, report: bytes, joined: bool = False) -> Verified:
@@ -85,11 +90,13 @@ def _verify_levels(history: bytes, rows: list[Row], joined: bool) -> Verified:
     """The same of a report of reglevel."""
     read = _accepted(history, limits=not joined)
     places = {0: 0, **{line: place for place, (line, _) in enumerate(numbered_lines(history), 1)}}
-    check_levels_report(read, rows, places, joined)
+    unchecked = check_levels_report(read, rows, places, joined)
     summary = rows[-1]
     kept = [level for level in (*LEVELS, *HALVES) if summary.get(level, summary["session"]) == "yes"]
+    kept += ["causal"] if summary.get("causal") == "yes" else []
     faulty = sum(row["atomic"] == "no" for row in rows[:-1])
-    return Verified(faulty == 0, summary["operations"], len(read.registers), faulty, kept=kept)
+    return Verified(faulty == 0, summary["operations"], len(read.registers), faulty, kept=kept,
+                    summary=summary, unchecked=unchecked)
 
 
 def _accepted(history: bytes, limits: bool, search: bool = False) -> History:

@@ -1,6 +1,7 @@
 """What each key of a report of reglevel claims, and how it is checked. docs/format.md names the keys."""
 from typing import Any, Callable, Iterator, Optional, Sequence
 
+from regkit.verify.causal import KEYS, check_causal
 from regkit.verify.clusters import check_kept
 from regkit.verify.gap import check_gap
 from regkit.verify.guarantees import GUARANTEES, Places, check_level_fault, check_order
@@ -15,8 +16,9 @@ BY_STRENGTH = ("atomic", "session", *HALVES, "sequential")  # those that an orde
 COUNTS = ("stale", "own", "back", "inverted", "lost")
 
 
-def check_levels_report(history: History, rows: Sequence[Row], places: Places, joined: bool) -> None:
-    """Checks each claim of a report of reglevel. One that was joined may have no gaps. Raises Wrong."""
+def check_levels_report(history: History, rows: Sequence[Row], places: Places, joined: bool) -> bool:
+    """Checks each claim of a report of reglevel. One that was joined may have no gaps, and say nothing of
+    causal. Returns whether it would take too long to check that this is yes. Raises Wrong."""
     *lines, summary = rows
     with_gaps = not joined or any("gap" in line for line in lines)
     named = [line.get("register") for line in lines]
@@ -27,6 +29,7 @@ def check_levels_report(history: History, rows: Sequence[Row], places: Places, j
         with_name(name, check_line, Register(name, history.registers[name]), line, places, with_gaps)
     check_shown(lines)
     check_summary(lines, summary, with_gaps)
+    return check_causal(history, lines, summary, joined)
 
 
 def check_shown(lines: Sequence[Row]) -> None:
@@ -54,7 +57,7 @@ def check_summary(lines: Sequence[Row], summary: Row, with_gaps: bool) -> None:
         due["gap"] = max(line["gap"]["events"] for line in lines if "gap" in line)
     for key, value in due.items():
         need(key in summary and same(summary[key], value), f"the summary's `{key}` is {value}")
-    others = sorted(set(summary) - set(due))
+    others = sorted(set(summary) - set(due) - set(KEYS))
     need(not others, f"the summary has other keys: {', '.join(others)}")
 
 

@@ -1,10 +1,11 @@
-"""The levels in words: what a register keeps."""
+"""The levels in words: what a register keeps, or a history."""
 from typing import Sequence
 
 from regkit.words.phrases import joined
 
 WORDS = {"atomic": "linearizable", "regular": "regular", "session": "session",
-         "own_writes": "read your writes", "monotonic": "monotonic reads", "sequential": "sequential"}
+         "own_writes": "read your writes", "monotonic": "monotonic reads", "sequential": "sequential",
+         "causal": "causal"}
 
 
 def kept_in_words(levels: Sequence[str]) -> str:

@@ -21,7 +21,7 @@ pub const REFUSED: u32 = 2;
 pub const BAD_NUMBER: u32 = 3;
 pub const NO_MEMORY: u32 = 4;
 pub const TOO_SMALL: u32 = 5;
-/// Of `regsearch_report` alone.
+/// Of `regsearch_report`, and of `reglevel_report` if `levels::CAUSAL` is required.
 pub const UNKNOWN: u32 = 6;
 
 /// What `reglevel_report` may require.
@@ -32,11 +32,12 @@ pub mod levels {
     pub const OWN_WRITES: u32 = 3;
     pub const MONOTONIC: u32 = 4;
     pub const SEQUENTIAL: u32 = 5;
+    pub const CAUSAL: u32 = 6;
 }
 
 /// What a report of levels has to say in addition is a sum of these: each stale read,
 pub const STALE: u32 = 1;
-/// and an order for the strongest level that holds.
+/// and an order for the strongest level of each register, and one if all is causal.
 pub const ORDERS: u32 = 2;
 
 /// The line of a refusal has no more bytes.
@@ -72,7 +73,8 @@ extern "C" {
     );
 
     /// The same for the program reglevel: of a history of reads and writes, whether it keeps one of the
-    /// [`levels`]. `ATOMIC` says that each register does, and `NOT_ATOMIC` that one doesn't.
+    /// [`levels`]. `ATOMIC` says that each register does, or the whole if it is `CAUSAL`, and `NOT_ATOMIC`
+    /// that one doesn't.
     ///
     /// # Safety
     /// As of [`regcheck_report`].

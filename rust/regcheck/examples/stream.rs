@@ -67,6 +67,7 @@ fn level(word: &str) -> Level {
         "own_writes" => Level::OwnWrites,
         "monotonic" => Level::Monotonic,
         "sequential" => Level::Sequential,
+        "causal" => Level::Causal,
         _ => panic!("{word} is no level"),
     }
 }

@@ -38,6 +38,7 @@ pub fn ask_level(history: &[u8], level: Level) -> Result<LevelAnswer, Error> {
             report: said.stdout,
             program: Some(program),
         }),
+        GAVE_UP => Err(Error::LevelUnknown),
         REFUSED => Err(Error::Refused(read(complaint(&said)))),
         _ => Err(Error::Program(failure(&program, &said))),
     }

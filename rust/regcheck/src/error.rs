@@ -8,6 +8,8 @@ pub enum Error {
     Refused(Refusal),
     /// Memory ran out in the library. A program says so in words.
     NoMemory,
+    /// reglevel gave up, as it may do if `Level::Causal` is asked for.
+    LevelUnknown,
     /// A program couldn't be run, or said what no refusal is. The library never says this.
     Program(String),
 }
@@ -31,6 +33,10 @@ impl fmt::Display for Error {
         match self {
             Error::Refused(refusal) => to.write_str(&refusal.words),
             Error::NoMemory => to.write_str("memory ran out"),
+            Error::LevelUnknown => to.write_str(
+                "causal is unknown: deciding it would take more memory or work than reglevel spends. It is \
+                 decided for fewer sessions, or a shorter run",
+            ),
             Error::Program(words) => to.write_str(words),
         }
     }

@@ -221,13 +221,12 @@ fn shown(answer: &Answer) -> String {
     lines.fold(verdict.to_owned(), |words, line| words + "\n  " + line)
 }
 
-/// The lines of the report whose registers lack the level.
+/// The lines of the report whose registers lack the level. Of `Causal` it is the last line.
 fn lacking(answer: &LevelAnswer) -> String {
     let (level, text) = (answer.level.key(), String::from_utf8_lossy(&answer.report));
     let no = format!("\"{level}\":\"no\"");
-    let lines = text
-        .lines()
-        .filter(|line| line.contains("\"register\":") && line.contains(&no));
+    let told = |line: &&str| answer.level == Level::Causal || line.contains("\"register\":");
+    let lines = text.lines().filter(|line| told(line) && line.contains(&no));
     lines.fold(format!("doesn't keep {level}"), |words, line| {
         words + "\n  " + line
     })

@@ -2,8 +2,8 @@
 use crate::{ask_level, kept, Error};
 use std::path::PathBuf;
 
-/// A guarantee that a store may give of each of its keys. docs/levels.md explains them. A session is a client
-/// of a recorder until one of its calls stays pending.
+/// A guarantee that a store may give of each of its keys, or, as `Causal`, of all of them together.
+/// docs/levels.md explains them. A session is a client of a recorder until one of its calls stays pending.
 #[derive(Clone, Copy, Debug, PartialEq, Eq)]
 pub enum Level {
     /// Linearizable: each read gives the latest write.
@@ -18,6 +18,8 @@ pub enum Level {
     Monotonic,
     /// Each session in order, and all agree on one order of the writes.
     Sequential,
+    /// Of all keys together: no read misses a newer write that it knew of.
+    Causal,
 }
 
 impl Level {
@@ -30,11 +32,12 @@ impl Level {
             Level::OwnWrites => "own_writes",
             Level::Monotonic => "monotonic",
             Level::Sequential => "sequential",
+            Level::Causal => "causal",
         }
     }
 }
 
-/// Whether each register of a history keeps a level, and what that rests on.
+/// Whether each register of a history, or the whole of it, keeps a level, and what that rests on.
 #[derive(Clone, Debug, PartialEq, Eq)]
 pub struct LevelAnswer {
     pub level: Level,

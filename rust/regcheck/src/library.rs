@@ -84,6 +84,9 @@ pub fn ask_level(history: &[u8], level: Level) -> Result<LevelAnswer, Error> {
         )
     };
     let Answer { verdict, report } = answer(history.len(), report, refusal)?;
+    if verdict == Verdict::Unknown {
+        return Err(Error::LevelUnknown);
+    }
     Ok(LevelAnswer {
         level,
         kept: verdict == Verdict::Yes,
@@ -101,6 +104,7 @@ fn number(level: Level) -> u32 {
         Level::OwnWrites => levels::OWN_WRITES,
         Level::Monotonic => levels::MONOTONIC,
         Level::Sequential => levels::SEQUENTIAL,
+        Level::Causal => levels::CAUSAL,
     }
 }
 

@@ -42,6 +42,7 @@ fn each_level(folder: &Path) {
         (Level::Session, "session"),
         (Level::Monotonic, "monotonic"),
         (Level::Sequential, "sequential"),
+        (Level::Causal, "causal"),
     ] {
         let words = not_kept(&recorder, level);
         let line = format!("level.jsonl: doesn't keep {key}\n  {{\"atomic\":\"no\"");
@@ -81,6 +82,8 @@ fn refusal(history: &str) -> Refusal {
 /// The words are those of regkit, which asks the same reglevel.
 #[cfg(not(feature = "library"))]
 fn by_itself(folder: &Path) {
+    use std::os::unix::fs::PermissionsExt;
+
     let recorder = goes_back(folder);
     let words = not_kept(&recorder, Level::Session);
     expect(&words, "level.jsonl: keeps read your writes; ");
@@ -95,6 +98,14 @@ fn by_itself(folder: &Path) {
     let words = no.words(&history).expect("words");
     assert!(words.starts_with("keeps read your writes; "), "{words}");
     assert_eq!(refusal("[]\n").line, Some(1));
+    let unsure = folder.join("unsure");
+    fs::write(&unsure, "#!/bin/sh\nexit 6\n").unwrap();
+    fs::set_permissions(&unsure, fs::Permissions::from_mode(0o755)).unwrap();
+    env::set_var("REGLEVEL", &unsure);
+    assert_eq!(
+        check_level(&history, Level::Causal),
+        Err(Error::LevelUnknown)
+    );
     env::set_var("REGLEVEL", "/nowhere/reglevel");
     expect(
         &not_checked(&recorder),
