@@ -10,10 +10,12 @@ from unittest import mock
 
 from regkit import verify
 from regkit.checker.levels import REQUIRED, read_levels
+from regkit.drawing.marks import foot_of, head_of
 from regkit.history.operations import read_history
 from regkit.levels.account import account, heading
-from regkit.levels.causal import MOST_SESSIONS, UNKNOWN, causal_fault, parts_of
+from regkit.levels.causal import MOST_SESSIONS, UNKNOWN, Teller, causal_fault, parts_of
 from regkit.levels.subject import Places, Subject
+from regkit.pictures.causal import marks_of
 from regkit.pictures.page import levels_page
 from regkit.verify.causal import built, check_order
 from regkit.verify.knowledge import Whole, by_knowledge
@@ -256,6 +258,45 @@ class Pages(unittest.TestCase):
                   *was_read(2, None, "x")]
         subject = subject_of(events, hidden(1, 0, 1, 3, 5, 7, 9), step(0, 1, "initial"))
         self.assertIn("x: w 1", levels_page(subject, "h"))
+
+    def test_all_that_the_steps_name_is_drawn(self) -> None:
+        """However far apart: the chain by which a read knew, and both reads, with arrows that end at them."""
+        own = (written(1, 1, "x"), written(2, 2, "x"), written(1, 1, "y"), was_read(3, 1, "y"),
+               was_read(3, 2, "x"), was_read(2, 1, "x"))
+        events = [event for number, each in enumerate(own, 1) for event in
+                  (*each, *(event for value in range(30) for event in written(9, 100 * number + value, "x")))]
+        of_y, told, late, other = 125, 187, 249, 311
+        subject = subject_of(events, hidden(1, 63, 1, of_y, told, late), hidden(63, 1, 63, other))
+        page = levels_page(subject, "h")
+        figure = page[page.index("<figure><svg", page.index("Not kept: causal")):]
+        figure = figure[:figure.index("</figure>")]
+        strong = re.findall('class="bar [^"]*strong[^"]*" data-line="(\\d+)"', figure)
+        self.assertEqual([int(line) for line in strong], [1, 63, of_y, told, late, other])
+        self.assertEqual([figure.count(f'class="head {cluster}"') for cluster in ("first", "second")], [3, 1])
+        self.assertEqual(figure.count("one of the reads with this sign is stale"), 2)
+        self.assertIn(">record line<", figure)
+        self.assertIn('class="long"', figure)
+
+    def test_the_read_that_knew(self) -> None:
+        """A single one is stale, and the arrow that leads along what it knew ends there."""
+        subject = subject_of(FLAG, *OF_FLAG)
+        marks = marks_of(parts_of(subject.history, subject.levels.summary["causal_fault"]), Teller(subject))
+        assert marks is not None
+        self.assertEqual([[(before.line, after.line) for before, after in arrow.hops]
+                          for arrow in marks.arrows], [[(1, 3), (3, 5), (5, 7)], [(0, 1)]])
+        self.assertEqual((marks.stale_lines, marks.doubted_lines), ({7}, set()))
+        self.assertIn("a stale read: it gave an older value", levels_page(subject, "h"))
+
+    def test_where_arrows_stand(self) -> None:
+        """From an end to a beginning; where two operations overlap, still from left to right if it can be."""
+        for events, ends in [
+                ([*written(1, 1, "x"), *was_read(2, 1, "x")], (2, 3)),
+                ([write(1, 1, "x"), read(2, "x"), gave(2, 1), reply(1)], (1, 2)),
+                ([read(2, "x"), write(1, 1, "x"), gave(2, 1), reply(1)], (2, 3)),
+                ([write(1, 1, "x"), crash(1), *was_read(2, 1, "x")], (1, 3))]:
+            calls = read_history(text(*events)).calls
+            source, target = sorted(calls, key=lambda call: call.kind, reverse=True)
+            self.assertEqual((foot_of(source, target), head_of(source, target)), ends)
 
     def test_initial_writes_of_two_registers_have_no_picture(self) -> None:
         events = [*written(1, 1, "x"), *was_read(1, None, "y"), *written(2, 1, "y"), *was_read(2, None, "x")]

@@ -209,16 +209,16 @@ class Levels(unittest.TestCase):
         """Of what is broken only the weakest: the rest follows."""
         for name, said in [
                 ("follower_behind", "Kept: each session only moves forward; no read misses a write that "
-                                    "it knew of. Broken: no read misses a write that had ended."),
+                                    "it knew of. Broken: some read missed a finished write."),
                 ("answer_before_question",
-                 "Kept: each session only moves forward. Broken: no read misses a write that had ended; no "
-                 "read misses a write that it knew of."),
-                ("read_goes_back", "Kept: no session misses its own write. Broken: no read misses a write "
-                                   "that had ended; no session goes back to an older value; all agree on one "
-                                   "order of the writes."),
+                 "Kept: each session only moves forward. Broken: some read missed a finished write; some "
+                 "read missed a write that it knew of."),
+                ("read_goes_back", "Kept: no session misses its own write. Broken: some read missed a "
+                                   "finished write; some session went back to an older value; no one order "
+                                   "of the writes fits all sessions."),
                 ("new_old_across_sessions", "Kept: no read misses a write that had ended; each session only "
                                             "moves forward; no read misses a write that it knew of. "
-                                            "Broken: each read gives the latest write.")]:
+                                            "Broken: some read didn't give the latest write.")]:
             self.assertIn(said, words_of(levels_page(of_example(name), "h")))
 
     def test_titles(self) -> None:

@@ -13,11 +13,12 @@ from regkit.words.quoting import columns
 
 SIGNS: dict[str, Callable[[float, float], str]] = {
     "unexplained": shapes.exclamation, "contradicted": shapes.exclamation, "stale": shapes.back,
-    "fresh": shapes.tick,
+    "doubted": shapes.doubt, "fresh": shapes.tick,
     "overlapped": shapes.parallel, "beside": shapes.parallel, "loose": shapes.tilde, "failed": shapes.cross}
 SIGN_WORDS = {"unexplained": "the first read that can't be explained",
               "contradicted": "no order gives its reply",
               "stale": "a stale read: it gave an older value",
+              "doubted": "it knew of another value: one of the reads with this sign is stale",
               "fresh": "the fresh read: it gave the newer value",
               "overlapped": "it was open at the same time as the first read that can't be explained",
               "beside": "it overlaps the call whose reply no order gives",
@@ -28,7 +29,7 @@ SIGN_WORDS = {"unexplained": "the first read that can't be explained",
 def classes(bar: Bar) -> str:
     call = bar.operation
     state = "failed" if call.failed else "pending" if call.pending else ""
-    colour = bar.cluster or ("stale" if {"unexplained", "stale"} & set(bar.signs) else "")
+    colour = bar.cluster or ("stale" if {"unexplained", "stale", "doubted"} & set(bar.signs) else "")
     if "contradicted" in bar.signs:  # whatever it writes
         colour = "stale"
     kind, strong = "read" if call.kind == "read" else "write", "strong" if bar.strong else ""

@@ -81,6 +81,8 @@ def signs_of(operation: Operation, marks: Marks) -> list[str]:
         signs.append("contradicted" if marks.by_search else "unexplained")
     if operation.line in marks.stale_lines or (marks.pair is not None and operation is marks.pair.stale):
         signs.append("stale")
+    if operation.line in marks.doubted_lines:
+        signs.append("doubted")
     if marks.pair is not None and operation is marks.pair.fresh and operation.kind == "read":
         signs.append("fresh")
     if operation.line in marks.overlapped_lines:

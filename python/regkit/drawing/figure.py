@@ -5,16 +5,17 @@ from regkit.drawing import shapes, svg
 from regkit.drawing.axis import Gap
 from regkit.drawing.barmarks import bar_group, points_of, spots_of, thread_of
 from regkit.drawing.bars import LETTER, SMALL_LETTER, Bar, label_of, shown_value
-from regkit.drawing.marks import Arrow, Marks, Zone
-from regkit.drawing.ruler import OVERVIEW_LABEL, overview, ruler, ruler_height
+from regkit.drawing.marks import Arrow, Marks, Zone, foot_of, head_of
+from regkit.drawing.ruler import AXIS_LABEL, OVERVIEW_LABEL, overview, ruler, ruler_height
 from regkit.drawing.scene import Scene
 from regkit.drawing.svg import tag, text
 from regkit.explain.sentences import precedence, value_of
-from regkit.history.operations import History
+from regkit.history.operations import History, Operation
 from regkit.words.phrases import capital
 from regkit.words.quoting import columns
 
 PAGE_WIDTH = 1136.0  # of what the page has room for
+WIDEST_SHRUNK = 1.5 * PAGE_WIDTH  # a picture that is wider keeps its size, and the page scrolls it
 LEAST_GUTTER = 84.0  # for the labels at the left
 TOP, LEFT, RIGHT = 8.0, 2.0, 12.0  # margins
 ZONE_ROW, ARROW_ROW, LANE_ROW = 22.0, 24.0, 32.0
@@ -59,7 +60,7 @@ def zones_in_words(zones: Sequence[Zone]) -> str:
 def gutter_of(marks: Marks, lane_labels: list[str], details: Sequence[str] = ()) -> float:
     """The room that the labels at the left need, and the small ones below them."""
     labels = [zone_label(zone) for zone in marks.zones] + lane_labels
-    labels += [arrow_label(arrow) for arrow in marks.arrows]
+    labels += [arrow_label(arrow) for arrow in marks.arrows] + [AXIS_LABEL] * marks.across
     widths = [columns(label) * LETTER for label in labels]
     widths += [columns(detail) * SMALL_LETTER for detail in details]
     return max(LEAST_GUTTER, max(widths) + 18) if labels else LEFT
@@ -94,9 +95,11 @@ class Figure:
         if self.scene.left_out:
             parts.append(self.below("overview", overview(self.scene, self.history, self.lanes_end)))
         size = f"0 0 {svg.number(self.width)} {svg.number(self.height)}"
-        across = {"data_across": "registers"} if self.scene.marks.across else {}
+        more = {"data_across": "registers"} if self.scene.marks.across else {}
+        if self.width > WIDEST_SHRUNK:
+            more["class_"] = "long"
         return tag("svg", "".join(parts), width=self.width, height=self.height, viewBox=size, role="img",
-                   aria_label=label, data_from=self.gutter, data_to=self.width - RIGHT, **across)
+                   aria_label=label, data_from=self.gutter, data_to=self.width - RIGHT, **more)
 
     def below(self, name: str, parts: list[str]) -> str:
         """What stands below the lanes and counts its places from the axis on."""
@@ -130,13 +133,13 @@ class Figure:
     def place(self, line: int) -> float:
         return self.gutter + self.scene.axis.end_at(line)
 
-    def feet(self, arrow: Arrow) -> tuple[float, float]:
-        """Where an arrow leaves its row: above the end of the one bar, or its beginning if it never ends, and
-        the beginning of the other."""
-        before, head = arrow.before, self.place(arrow.after.line) + INSET
-        if before.pending:
-            return self.place(before.line) + INSET, head
-        return self.place(before.end_line or 0) - INSET, head
+    def feet(self, before: Operation, after: Operation) -> tuple[float, float]:
+        """Where an arrow leaves its row: above an end of the one bar, and of the other."""
+        return self.within(before, foot_of(before, after)), self.within(after, head_of(before, after))
+
+    def within(self, operation: Operation, line: int) -> float:
+        """A little inside the end of a bar that is at a line."""
+        return self.place(line) + (-INSET if line == operation.end_line else INSET)
 
     def row(self, arrow: Arrow) -> float:
         return self.arrows_top + ARROW_ROW * (arrow.number - 0.5)
@@ -149,21 +152,23 @@ class Figure:
         bars."""
         parts = []
         for arrow in self.scene.marks.arrows:
-            left, right = self.feet(arrow)
-            row, foot, head = self.row(arrow), self.top_of(arrow.before.line), self.top_of(arrow.after.line)
-            line = tag("path", class_=f"arrow {arrow.cluster}",
-                       d=shapes.path("M", left, foot, "V", row, "H", right, "V", head - 5))
-            why = arrow.why or precedence(arrow.before, arrow.after)
-            words = svg.title(capital(why) + ".")
-            parts += [text(self.gutter - 12, row + 4, arrow_label(arrow), "gutter"), tag("g", line + words)]
+            row = self.row(arrow)
+            parts.append(text(self.gutter - 12, row + 4, arrow_label(arrow), "gutter"))
+            words = svg.title(capital(arrow.why or precedence(arrow.before, arrow.after)) + ".")
+            for before, after in arrow.hops:
+                left, right = self.feet(before, after)
+                d = shapes.path("M", left, self.top_of(before.line), "V", row, "H", right, "V",
+                                self.top_of(after.line) - 5)
+                parts.append(tag("g", tag("path", class_=f"arrow {arrow.cluster}", d=d) + words))
         return parts
 
     def heads(self) -> list[str]:
         """The numbers, feet and heads of the arrows, above everything else."""
         parts = []
-        for arrow in self.scene.marks.arrows:
-            left, right = self.feet(arrow)
-            foot, head = self.top_of(arrow.before.line), self.top_of(arrow.after.line)
+        for arrow, (before, after) in ((arrow, hop) for arrow in self.scene.marks.arrows
+                                       for hop in arrow.hops):
+            left, right = self.feet(before, after)
+            foot, head = self.top_of(before.line), self.top_of(after.line)
             content = (tag("circle", cx=left, cy=foot, r=3) +
                        tag("path", d=shapes.path("M", right - 4.5, head - 7, "h 9 l -4.5 8 z"), data_x=right))
             parts += [tag("g", content, class_=f"head {arrow.cluster}"),

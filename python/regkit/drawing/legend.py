@@ -59,6 +59,7 @@ def entries(found: set[str]) -> list[str]:
         ("unexplained", sign_alone(shapes.exclamation(9, 11)), "first unexplained read"),
         ("contradicted", sign_alone(shapes.exclamation(9, 11)), "no order gives its reply"),
         ("stale", sign_alone(shapes.back(9, 11)), "stale read"),
+        ("doubted", sign_alone(shapes.doubt(9, 11)), "one of these reads is stale"),
         ("fresh", sign_alone(shapes.tick(9, 11)), "fresh read"),
         ("overlapped", sign_alone(shapes.parallel(9, 11)), "write that overlaps it"),
         ("beside", sign_alone(shapes.parallel(9, 11)), "write or cas that overlaps it"),

@@ -1,6 +1,6 @@
 """What a picture points at: the two clusters that contradict each other, the precedences between them, the
 first read that can't be explained, the writes that were open beside it, and a stale read and a fresh one."""
-from typing import Hashable, NamedTuple, Optional
+from typing import Hashable, NamedTuple, Optional, Sequence
 
 from regkit.checker.report import Row
 from regkit.explain.causes import StalePair, stale_pair
@@ -21,6 +21,27 @@ class Arrow(NamedTuple):
     number: int
     label: str = ""  # beside it, if not the two values
     why: str = ""  # if it didn't end before
+    via: Sequence[Operation] = ()  # the operations along which it leads
+
+    @property
+    def hops(self) -> list[tuple[Operation, Operation]]:
+        """From each operation of its way to the next."""
+        way = [self.before, *self.via, self.after]
+        return list(zip(way, way[1:]))
+
+
+def foot_of(before: Operation, after: Operation) -> int:
+    """The line at which an arrow leaves an operation: its end, unless it was still open as the other
+    began."""
+    end = before.end_line or 0
+    return before.line if before.pending or end > after.line else end
+
+
+def head_of(before: Operation, after: Operation) -> int:
+    """The line at which an arrow comes to an operation: its beginning, if that isn't before the arrow's foot
+    though its end is behind it."""
+    foot, end = foot_of(before, after), after.end_line
+    return after.line if end is None or not after.line < foot < end else end
 
 
 class Zone(NamedTuple):
@@ -48,6 +69,7 @@ class Marks:
         self.overlapped: list[Operation] = []  # the writes that were open while the unexplained read was
         self.overlapped_lines: set[int] = set()
         self.stale_lines: set[int] = set()  # the lines of stale reads, where a report lists them
+        self.doubted_lines: set[int] = set()  # the lines of reads of which one is stale
         self.loose: set[int] = set()  # the lines of calls whose replies needn't count
         self.by_search = False  # whether the unexplained reply is one for which a search found no order
 

@@ -7,6 +7,7 @@ from regkit.history.operations import History
 
 NUMBERS, OVERVIEW = 34.0, 26.0  # heights
 OVERVIEW_LABEL = "all lines"
+AXIS_LABEL = "record line"  # of pictures of several registers
 SPACE = 7.0  # between two numbers
 Extent = tuple[float, float]
 
@@ -16,7 +17,8 @@ def ruler_height(scene: Scene) -> float:
 
 
 def ruler(scene: Scene, top: float) -> list[str]:
-    return [tag("path", class_="axis", d=baseline(scene, top + 2)), *left_out(scene, top),
+    label = [text(-12, top + 17, AXIS_LABEL, "gutter")] if scene.marks.across else []
+    return [tag("path", class_="axis", d=baseline(scene, top + 2)), *label, *left_out(scene, top),
             *numbers(scene, top)]
 
 

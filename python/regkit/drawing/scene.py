@@ -7,7 +7,7 @@ from typing import Iterable, NamedTuple
 from regkit.drawing.axis import DIGIT, STEP, Axis, Stretch, spread
 from regkit.drawing.bars import INITIAL_CALL, Bar, bar_of
 from regkit.drawing.lanes import MOST_PROCESSES, Lanes, lanes_of_processes, packed
-from regkit.drawing.marks import Marks
+from regkit.drawing.marks import Marks, foot_of
 from regkit.drawing.windows import Window, count_left_out, windows_around
 from regkit.history.operations import Operation
 from regkit.history.who import shared
@@ -91,7 +91,9 @@ def near_lines(marks: Marks, register: Register) -> list[int]:
 
 def lines_that_matter(marks: Marks, register: Register) -> list[list[int]]:
     """The lines that windows are drawn around: all that are of interest; then fewer, if the page has no
-    room."""
+    room. Of several registers never fewer: then the picture is wider than the page."""
+    if marks.across:
+        return [lines_of(marks.named.values())]
     arrows = [line for arrow in marks.arrows for line in (arrow.before.end_line, arrow.after.line) if line]
     least = arrows + lines_of([marks.unexplained] if marks.unexplained else [])
     calls = least + [line for line in marks.named if line]
@@ -103,7 +105,7 @@ def room_of(marks: Marks, register: Register, windows: list[Window]) -> dict[int
     """The least room after some lines: for the number of a line that matters, an arrow, and the points."""
     room = {line: DIGIT * len(str(line)) + 8 for line in lines_of(marks.named.values())}
     for arrow in marks.arrows:
-        room[arrow.before.end_line or 0] = ARROW_ROOM
+        room.update((foot_of(*hop), ARROW_ROOM) for hop in arrow.hops)
     for window in windows:
         for line in register.lines(window):
             if line in register.effects:

@@ -55,6 +55,13 @@ def back(x: float, y: float) -> str:
             tag("path", class_="stale-mark", d=turned))
 
 
+def doubt(x: float, y: float) -> str:
+    """The sign of a read that is stale unless another one is: a question mark in a ring."""
+    hook = path("M", x - 2.4, y - 1.6, "c 0 -3 4.8 -3 4.8 0 c 0 1.6 -2.4 1.4 -2.4 3.2 m 0 1.6 v 1.2")
+    return (tag("circle", class_="stale-ring", cx=x, cy=y, r=6.4) +
+            tag("path", class_="stale-mark", d=hook))
+
+
 def tick(x: float, y: float) -> str:
     """The sign of the fresh read: a tick in a disc."""
     return (tag("circle", class_="fine", cx=x, cy=y, r=7) +

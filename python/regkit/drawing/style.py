@@ -220,6 +220,7 @@ STYLE = f"""
 :root{{color-scheme:light dark;{LIGHT}}}
 @media screen and (prefers-color-scheme:dark){{:root{{{DARK}}}}}
 {WORDS}{PICTURES}{LEVELS}{WALK}
+@media screen{{figure>svg.long{{max-width:none}}}}
 @media screen and (max-width:760px){{{NARROW}}}
 @media print{{{PRINT}}}
 """.replace("MONOSPACE", MONOSPACE)

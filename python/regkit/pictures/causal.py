@@ -12,7 +12,7 @@ from regkit.drawing.text import words
 from regkit.explain.sentences import value_of
 from regkit.explain.shrinking import ShrinkSettings
 from regkit.history.operations import Operation
-from regkit.levels.causal import MOST_PARTS, Part, Teller, parts_of, sessions_of, told_parts
+from regkit.levels.causal import MOST_PARTS, MOST_SESSIONS, Part, Teller, parts_of, sessions_of, told_parts
 from regkit.levels.subject import Subject
 from regkit.pictures.faults import MOST_ARROWS, STEP, Section
 from regkit.words.phrases import capital
@@ -38,14 +38,20 @@ def colours_of(parts: list[Part]) -> list[str]:
     return list(CLUSTERS[:len(parts)]) if len(parts) <= len(CLUSTERS) else [STEP] * len(parts)
 
 
-def named_in(part: Part) -> Iterator[Operation]:
-    """What a part rests on: of a way, what each session did first and last."""
-    yield part.before
-    yield part.after
-    for own in sessions_of(part.way):
-        yield from (own[0], own[-1])
-    if part.read is not None:
-        yield part.read
+def stops_of(part: Part) -> list[Operation]:
+    """The way of a part as the words tell it, to the read that knew of it and gave something else, if there
+    is one: what each session did first and last. Of too many sessions the first operation and the last
+    session."""
+    sessions = sessions_of(part.way)
+    if len(sessions) > MOST_SESSIONS:
+        sessions = [[part.before], sessions[-1]]
+    stops = [call for own in sessions for call in (own if len(own) == 1 else (own[0], own[-1]))]
+    return stops or [part.before, part.read or part.after]
+
+
+def named_in(part: Part) -> list[Operation]:
+    """What a part rests on."""
+    return [part.before, part.after, *stops_of(part)]
 
 
 def label_of(part: Part, marks: Marks) -> str:
@@ -69,8 +75,11 @@ def marks_of(parts: list[Part], teller: Teller) -> Optional[Marks]:
             marks.clusters[marks.key_of(part.before)] = colour
         for operation in named_in(part):
             marks.name(operation)
+        first, *via, last = stops_of(part)
         why = "; ".join(teller.part(part))
-        marks.arrows.append(Arrow(part.before, part.after, colour, number, label_of(part, marks), why))
+        marks.arrows.append(Arrow(first, last, colour, number, label_of(part, marks), why, via))
+    reads = {part.read.line for part in parts if part.read is not None}
+    marks.stale_lines, marks.doubted_lines = (reads, set()) if len(reads) == 1 else (set(), reads)
     return marks
 
 

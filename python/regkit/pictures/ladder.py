@@ -23,6 +23,12 @@ MEANINGS = {
     "monotonic": "no session goes back to an older value",
     "sequential": "all agree on one order of the writes",
     "causal": "no read misses a write that it knew of"}
+BREACHES = {  # what happened where a level wasn't kept
+    "atomic": "some read didn't give the latest write", "regular": "some read missed a finished write",
+    "session": "some session went backward", "own_writes": "some session missed its own write",
+    "monotonic": "some session went back to an older value",
+    "sequential": "no one order of the writes fits all sessions",
+    "causal": "some read missed a write that it knew of"}
 CAPTION = ("Kept means that this run shows nothing against it; another run may. Each level implies those "
            "that its arrows lead to. The name in brackets is the one that --require takes. A register is a "
            "key. A session is a process of the history: one client, which waits for each reply. Causal is of "

@@ -15,7 +15,7 @@ from regkit.pictures.bursts import bursts_of
 from regkit.pictures.causal import causal_sections
 from regkit.pictures.faults import Section, section
 from regkit.pictures.histogram import histogram
-from regkit.pictures.ladder import MEANINGS, ladder
+from regkit.pictures.ladder import BREACHES, MEANINGS, ladder
 from regkit.pictures.registers import table, worst_first
 from regkit.pictures.timeline import timeline
 from regkit.words.levels import in_words
@@ -47,7 +47,7 @@ def meaning(subject: Subject) -> str:
     is broken since a weaker one is isn't named."""
     held, broken = kept(subject.levels.summary), set(lacking(subject.levels.summary))
     good = [MEANINGS[level] for level in strongest(held)]
-    bad = [meaning for level, meaning in MEANINGS.items()
+    bad = [breach for level, breach in BREACHES.items()
            if level in broken and not broken & {*WEAKER.get(level, ())}]
     said = [f"Kept: {'; '.join(good)}."] * bool(good) + [f"Broken: {'; '.join(bad)}."] * bool(bad)
     return " ".join(said)
