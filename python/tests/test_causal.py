@@ -10,12 +10,14 @@ from unittest import mock
 
 from regkit import verify
 from regkit.checker.levels import REQUIRED, read_levels
-from regkit.drawing.marks import foot_of, head_of
+from regkit.drawing.marks import Arrow, foot_of, head_of
+from regkit.drawing.section import Author
+from regkit.explain.shrinking import ShrinkSettings
 from regkit.history.operations import read_history
 from regkit.levels.account import account, heading
 from regkit.levels.causal import MOST_SESSIONS, UNKNOWN, Teller, causal_fault, parts_of
 from regkit.levels.subject import Places, Subject
-from regkit.pictures.causal import marks_of
+from regkit.pictures.causal import AcrossRegisters, marks_of
 from regkit.pictures.page import levels_page
 from regkit.verify.causal import built, check_order
 from regkit.verify.knowledge import Whole, by_knowledge
@@ -276,6 +278,22 @@ class Pages(unittest.TestCase):
         self.assertEqual(figure.count("one of the reads with this sign is stale"), 2)
         self.assertIn(">record line<", figure)
         self.assertIn('class="long"', figure)
+
+    def test_all_are_drawn_that_are_open_at_once(self) -> None:
+        """Though a picture has no more than 24 lanes for calls that no step names."""
+        size = 14
+        begun = [write(2 * n, n, f"r{n}") for n in range(1, size + 1)]
+        heard = [read(2 * n + 1, f"r{n}") for n in range(1, size + 1)]
+        replies = [each for n in range(1, size + 1) for each in (gave(2 * n + 1, n), reply(2 * n))]
+        history = read_history(text(*begun, *heard, *replies))
+        marks = AcrossRegisters()
+        for number, call in enumerate(history.calls[:size], 1):
+            reader = history.calls[size + number - 1]
+            marks.arrows.append(Arrow(call, reader, "step", number, "x", "y"))
+            marks.name(call)
+            marks.name(reader)
+        author = Author(history, {"register": ""}, ShrinkSettings(), history.calls)
+        self.assertEqual(author.windows(marks, "it").count('class="head step"'), size)
 
     def test_the_read_that_knew(self) -> None:
         """A single one is stale, and the arrow that leads along what it knew ends there."""

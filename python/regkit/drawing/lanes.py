@@ -51,20 +51,21 @@ def packed(bars: list[Bar], axis: Axis) -> Lanes:
     taken: list[list[Span]] = []
     lane_of: dict[int, int] = {}
     for bar in sorted(bars, key=lambda bar: urgency(bar, axis)):
-        lane = free_lane(taken, (axis.begin_at(bar.begin), axis.end_at(bar.end)))
+        most = len(bars) if bar.strong else MOST_LANES  # an arrow may lead to one that is strong
+        lane = free_lane(taken, (axis.begin_at(bar.begin), axis.end_at(bar.end)), most)
         if lane is not None:
             lane_of[bar.begin] = lane
     return Lanes(lane_of, len(taken), [], [], len(bars) - len(lane_of))
 
 
-def free_lane(taken: list[list[Span]], span: Span) -> Optional[int]:
+def free_lane(taken: list[list[Span]], span: Span, most: int) -> Optional[int]:
     """Takes the first lane that has room, or a new one; None if there are too many."""
     begin, end = span
     for lane, spans in enumerate(taken):
         if all(end + SPACE <= other[0] or other[1] + SPACE <= begin for other in spans):
             spans.append(span)
             return lane
-    if len(taken) == MOST_LANES:
+    if len(taken) >= most:
         return None
     taken.append([span])
     return len(taken) - 1
