@@ -278,6 +278,7 @@ class Pages(unittest.TestCase):
         self.assertEqual(figure.count("one of the reads with this sign is stale"), 2)
         self.assertIn(">record line<", figure)
         self.assertIn('class="long"', figure)
+        self.assertIn("The picture goes on to the right.", figure)
 
     def test_all_are_drawn_that_are_open_at_once(self) -> None:
         """Though a picture has no more than 24 lanes for calls that no step names."""

@@ -79,6 +79,7 @@ class Figure:
         self.lanes_end = self.lanes_top + LANE_ROW * scene.lanes.size
         self.height = self.lanes_end + ruler_height(scene)
         self.width = self.gutter + scene.axis.right + RIGHT
+        self.scrolls = self.width > WIDEST_SHRUNK
         self.drawn = [bar for bar in scene.bars if bar.begin in scene.lanes.lane_of]
 
     def lane_top(self, line: int) -> float:
@@ -96,7 +97,7 @@ class Figure:
             parts.append(self.below("overview", overview(self.scene, self.history, self.lanes_end)))
         size = f"0 0 {svg.number(self.width)} {svg.number(self.height)}"
         more = {"data_across": "registers"} if self.scene.marks.across else {}
-        if self.width > WIDEST_SHRUNK:
+        if self.scrolls:
             more["class_"] = "long"
         return tag("svg", "".join(parts), width=self.width, height=self.height, viewBox=size, role="img",
                    aria_label=label, data_from=self.gutter, data_to=self.width - RIGHT, **more)

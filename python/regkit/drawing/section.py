@@ -154,8 +154,10 @@ class Author:
     def windows(self, marks: Marks, label: str) -> str:
         scene = fitted(self.register, marks, self.room(marks))
         self.scenes.append(scene)
-        caption = f"{self.caption(scene)} {zones_in_words(marks.zones)}".strip()
-        return figure(Figure(scene, self.history), label, caption)
+        drawn = Figure(scene, self.history)
+        more = "The picture goes on to the right." if drawn.scrolls else ""
+        said = [self.caption(scene), zones_in_words(marks.zones), more]
+        return figure(drawn, label, " ".join(filter(None, said)))
 
     def caption(self, scene: Scene) -> str:
         """How much is drawn and what isn't."""
