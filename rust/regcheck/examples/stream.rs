@@ -53,6 +53,7 @@ fn answer(history: &[u8], question: Question) -> ([u32; 4], Vec<u8>) {
                     refusal.other.unwrap_or(0),
                 ],
                 Error::NoMemory | Error::Program(_) => [4, 17, 0, 0],
+                Error::LevelUnknown => [6, 0, 0, 0],
             };
             (numbers, error.to_string().into_bytes())
         }
