@@ -58,5 +58,5 @@ func TestWordsOfLevels(t *testing.T) {
 }
 
 func TestNoSuchLevel(t *testing.T) {
-	mustSay(t, leveled(goesBack(t), "causal"), `no verdict: "causal" is no level`)
+	mustSay(t, leveled(goesBack(t), "eventual"), `no verdict: "eventual" is no level`)
 }

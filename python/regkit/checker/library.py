@@ -12,7 +12,7 @@ from typing import Any, Callable, Iterator, NamedTuple, Optional
 from regkit import __version__
 from regkit.base.limits import MAX_CONFIGURATIONS, MAX_STEPS
 from regkit.base.statuses import ExitStatus
-from regkit.checker.levels import LEVELS
+from regkit.checker.levels import REQUIRED
 from regkit.checker.programs import CHECK, VARIABLES
 
 TOO_SMALL = 5  # the only status of regcheck.h that isn't one of the programs: the report needs more room
@@ -99,10 +99,10 @@ class Library:
         """What `reglevel` would say of the history with these options, byte for byte.
 
         Raises ValueError if there is no such level."""
-        if level not in LEVELS:
-            raise ValueError(f"{level!r} is no level: it is one of {', '.join(LEVELS)}")
+        if level not in REQUIRED:
+            raise ValueError(f"{level!r} is no level: it is one of {', '.join(REQUIRED)}")
         more = STALE * stale + ORDERS * orders
-        answered = self._answered(self._levels, history, LEVELS.index(level), more)
+        answered = self._answered(self._levels, history, REQUIRED.index(level), more)
         return self._told(self._check_refusal, history, *answered)
 
     @staticmethod
