@@ -3,8 +3,7 @@
 # make run: run regcheck on a shipped example, or on FILE=...
 # make try: the same at once, unproved and with checks at run time; for a first look. PROGRAM=regsearch takes
 #   repeated values and cas, and PROGRAM=reglevel says which weaker levels hold.
-# make test: the gate: every proof from nothing, edits that must fail, tests, and scripts over the built
-#   program.
+# make test: the gate: every proof, edits that must fail, tests, and scripts over the built program.
 # make edits: try the wrong bodies that `make test` leaves out, in half an hour: after a change of a contract
 #   or of a body that they edit.
 # make costs: write the tables of what the programs spend, after a change that is meant to cost more or less.

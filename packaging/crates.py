@@ -1,9 +1,12 @@
-"""What crates.txt says of the repository's crates."""
+"""What crates.txt says of the repository's crates, and how `rt` says that it proved one."""
 import pathlib
+import re
 from typing import Dict, List, Set
 
 ROOT = pathlib.Path(__file__).resolve().parents[1]
 PROGRAMS = ("regcheck", "regsearch", "reglevel")  # those of a release that are built; regkit is Python
+PROVED = re.compile(r"^logic=proved functions=(\d+)", re.MULTILINE)
+LAST_LINES = 20  # of what `rt` said that are shown if a proof fails
 
 
 def uses() -> Dict[str, List[str]]:

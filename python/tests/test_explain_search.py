@@ -366,7 +366,7 @@ class Told(Files):
         with mock.patch("regkit.checker.programs.find_program", self.no_search()):
             ran = run("explain", "-", given=text(*STALE))
         self.assertEqual((ran.status, ran.out), (2, ""))
-        self.assertIn("regsearch would decide it", ran.err)
+        self.assertIn("regsearch takes it", ran.err)
 
     @staticmethod
     def no_search() -> object:

@@ -86,7 +86,7 @@ class WhichProgram(Files):
         self.assertIn("number the writes of each register", again.err)
         self.assertIn("refused: line 3: op is neither read nor write", other.err)
         for ran in (again, other):
-            self.assertIn("regsearch would decide it", ran.err)
+            self.assertIn("regsearch takes it", ran.err)
         with without_search():
             self.assertNotIn("regsearch", run("check", given=text(reply(1))).err)
 
@@ -290,7 +290,7 @@ class Assertions(Files):
             assert_atomic(text(*TWO_WINNERS))
         with self.assertRaises(TooLittleEvidence):
             assert_atomic(text(*FINE[:-2]))
-        words = "line 5: value already .*; regsearch would decide"
+        words = "line 5: value already .*; regsearch takes it"
         with without_search(), self.assertRaisesRegex(NotChecked, words):
             assert_atomic(text(*FINE))
 
@@ -468,4 +468,4 @@ class Drawings(Files):
         with without_search():
             ran = run("draw", str(path), "-o", str(self.folder / "page"))
         self.assertEqual(ran.status, 2)
-        self.assertIn("regsearch would decide it", ran.err)
+        self.assertIn("regsearch takes it", ran.err)

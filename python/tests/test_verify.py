@@ -590,6 +590,11 @@ class Command(unittest.TestCase):
         self.assertEqual(self.run_command(h, self.file("alone.report", b""))[0], 2)
         self.assertEqual(self.run_command(h, self.file("run.err", b"no memory or no thread\n"))[0], 2)
 
+    def test_long_numbers_have_commas(self) -> None:
+        self.assertEqual(command.in_words(verify.Verified(False, 2_000, 1_234, 1_001, 1_000)),
+                         "not linearizable: 2,000 operations on 1,234 registers, 1,001 of which are not "
+                         "linearizable, 1,000 of which the search gave up")
+
 
 @unittest.skipUnless((TOP / "tests" / "reference.py").exists(), "the repository's tests are not here")
 class Reference(unittest.TestCase):

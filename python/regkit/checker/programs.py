@@ -1,7 +1,7 @@
 """Asks the checkers: a program, or for a small history the library, where it is installed.
 
 `regcheck` decides whatever it accepts. If it refuses a history for a repeated value, or for a cas or another
-operation that it doesn't take, `regsearch` decides it, if it is there. `reglevel` says which weaker levels a
+operation that it doesn't take, `regsearch` takes it, if it is there. `reglevel` says which weaker levels a
 history kept."""
 import io
 import os
@@ -26,8 +26,8 @@ NO_LEVELS = "reglevel was not found: put it beside regcheck or on PATH, or set R
 CHECK, SEARCH, LEVEL = "regcheck", "regsearch", "reglevel"
 VARIABLES = {CHECK: "REGCHECK", SEARCH: "REGSEARCH", LEVEL: "REGLEVEL"}  # with the paths of the programs
 SEARCHED = frozenset({"cas", "delete", "swap"})  # the words of operations that only regsearch takes
-WOULD_DECIDE = ("regsearch would decide it, since it takes repeated values and cas: put it beside regcheck "
-                "or on PATH, or set REGSEARCH to its path")
+TAKEN_BY_SEARCH = ("regsearch takes it, with repeated values, cas, deletes and swaps: put it beside regcheck "
+                   "or on PATH, or set REGSEARCH to its path")
 
 
 class NoChecker(Exception):
@@ -225,8 +225,8 @@ def is_for_search(history: bytes, answer: Answer) -> bool:
 
 
 def with_search_hint(words: str, history: bytes, answer: Answer) -> str:
-    """Some words about a refusal; where regsearch would decide the history and isn't there, that too."""
-    return f"{words}; {WOULD_DECIDE}" if is_for_search(history, answer) else words
+    """Some words about a refusal; where regsearch would take the history and isn't there, that too."""
+    return f"{words}; {TAKEN_BY_SEARCH}" if is_for_search(history, answer) else words
 
 
 def searched(history: bytes, answer: Answer, options: Sequence[str] = ()) -> Answer:

@@ -1,4 +1,4 @@
-"""The refusals of the parts of a history, and the one that a run over the whole history would give."""
+"""The checkers' refusals of a line: their numbers and texts, and how they are read from a message."""
 import re
 from typing import Callable, NamedTuple, Optional
 

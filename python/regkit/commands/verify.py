@@ -8,6 +8,7 @@ from regkit import verify
 from regkit.base.statuses import ExitStatus
 from regkit.history.inputs import opened
 from regkit.levels.account import heading
+from regkit.words.phrases import counted
 
 HELP = "check each claim of a report against its history, by the definitions alone"
 EPILOG = """\
@@ -116,11 +117,11 @@ def in_words(found: verify.Verified) -> str:
         return f"{'linearizable' if found.atomic else 'not linearizable'}, by an early answer: {size}"
     if found.atomic:
         return f"linearizable: {size}"
-    open_end = f", {found.unknown} of which the search gave up" if found.unknown else ""
+    open_end = f", {found.unknown:,} of which the search gave up" if found.unknown else ""
     if not found.faulty:
         return f"unknown: {size}{open_end}"
     verb = "is" if found.faulty == 1 else "are"
-    faulty = f"{found.faulty} of which {verb} not linearizable"
+    faulty = f"{found.faulty:,} of which {verb} not linearizable"
     return f"not linearizable: {size}, {faulty}{open_end}{nos_in_words(found.nos)}"
 
 
@@ -136,7 +137,3 @@ def nos_in_words(nos: verify.Nos) -> str:
     if nos.listed:
         said.append(f"the open calls of {counted(nos.listed, 'no')} are those listed")
     return "".join(f"; {each}" for each in said)
-
-
-def counted(count: int, what: str) -> str:
-    return f"{count} {what}" if count == 1 else f"{count} {what}s"

@@ -226,10 +226,10 @@ class _JepsenLog:
                 answer = called.value
         self.pairing.end(line, client, ending, answer)
 
-    def _looked_closer(self, event: Event, is_read: bool, line: int) -> Ended:
+    def _looked_closer(self, event: Event, answers: bool, line: int) -> Ended:
         """How an operation ended that is :ok."""
         self._refuse_error(event, line)
-        return self.outcomes.of(event, is_read)
+        return self.outcomes.of(event, answers)
 
     def _refuse_error(self, event: Event, line: int) -> None:
         """An error beside :ok or :invoke is a contradiction."""

@@ -54,7 +54,7 @@ HARMLESS: dict[str, frozenset[str]] = {
 # By form, the name of what a write's reply says, for a person.
 WRITE_ANSWERS = {"jepsen": "value", "porcupine": "Output", "csv": "value", "operations": "value",
                  "jsonl": "value"}
-_ANSWERS = frozenset({"value", "output"})  # a read's value, which is never its outcome
+_ANSWERS = frozenset({"value", "output"})  # what is answered, which is never the outcome
 _CALLS = frozenset({"call", "invoke"})  # what says that a line is a call
 _LONGEST = 40  # characters of a value that is shown
 _VERSIONS = {"version": "--versions", "revision": "--revisions", "modrevision": "--revisions",
@@ -137,21 +137,22 @@ class Outcomes:
         self.choices = choices
         self.unknown: dict[tuple[str, str], int] = Counter()  # by member and its word, how many
         own = {folded(choices.columns[name]) for name in _ANSWERS if name in choices.columns}
-        self.answers = _ANSWERS | own
+        self.answer_names = _ANSWERS | own
 
-    def of(self, members: Mapping[Any, Any], is_read: bool) -> Ended:
-        """By its members. What isn't said to be well or to have failed is unknown."""
+    def of(self, members: Mapping[Any, Any], answers: bool) -> Ended:
+        """By its members; `answers` if its reply has a value that no call has. What isn't said to be well or
+        to have failed is unknown."""
         if not self.choices.ok_when:
             return _WELL
         members = by_folded_name(members)
         endings: set[Optional[str]] = {"reply"}
         for name, well in self.choices.ok_when.items():
-            if is_read and name in self.answers:
+            if answers and name in self.answer_names:
                 continue
             word = word_of(members.get(name))
             if folded(word) in well:
                 continue
-            if is_read and word and self.names_null(word):
+            if answers and word and self.names_null(word):
                 return Ended("reply", True)
             endings.add(self._ending(name, word))
         return Ended(next(ending for ending in _WEAKEST_FIRST if ending in endings))

@@ -140,8 +140,8 @@ class _Values:
             self.known[place].check(output, line)
             members = by_folded_name(output, line)
         _agree(beside, members, line)
-        is_read = operation.kind in ANSWERED
-        ending, found_nothing = self.outcomes.of({**beside, **members}, is_read)
+        answers = operation.kind in ANSWERED
+        ending, found_nothing = self.outcomes.of({**beside, **members}, answers)
         if ending == "reply" and is_etcd:
             ending, members = etcd.ended(operation, members, self.etcd_said, line)
         if operation.version is not None:
@@ -150,7 +150,7 @@ class _Values:
             return ending
         if is_cas:
             return self._end_cas({**beside, **members}, line)
-        if is_read and not found_nothing:
+        if answers and not found_nothing:
             self._answer(operation, members, line)
         elif operation.kind in STATED | {DELETE} and not self.choices.explains("output", "value"):
             operation.answer = _written(members)

@@ -28,12 +28,7 @@ def add_arguments(parser: argparse.ArgumentParser) -> None:
     add("-o", "--output", metavar="OUT", help="the history (default: standard output)")
     add("--map", metavar="FILE", help="write here, as JSON, what each number, process and line stands for")
     _add_meanings(parser)
-    add("--clock-error", metavar="TIME", help="porcupine, csv, operations: how far a clock may be from the "
-        "true time, such as 5ms; calls become earlier and replies later by it")
-    add("--clock-unit", choices=["ns", "us", "ms", "s"], help="what a number of the source's clock means")
-    add("--duration-unit", choices=["clock", "ns", "us", "ms", "s"], help="csv, operations: what a number in "
-        "the column of the durations means (clock: it is of the unit of the times), unless its name or the "
-        "number says it, as in latency_ms and 5ms")
+    _add_clocks(parser)
     add("--null", metavar="TEXT,..", help="the spellings of null, such as nil,,not-found (the second is the "
         "empty text, default for csv and porcupine); EDN's nil and JSON's null always are null")
     add("--initial", metavar="VALUE", help="each register starts with this value: a completed write of it "
@@ -50,16 +45,7 @@ def add_arguments(parser: argparse.ArgumentParser) -> None:
     add("--failed-cas", choices=["fail", "missed"], default="fail",
         help="what a failed cas says: nothing, since it had no effect (fail, the default), or that the store "
         "looked and found another value (missed)")
-    add("--versions", metavar="MEMBER", help="porcupine as JSON, csv, operations: a put takes place only if "
-        "its key has the version in this member, and then the key has the next one; a get is answered the "
-        "version there. Values and versions are checked at once, versions alone with --ignore-member Value")
-    add("--revisions", metavar="MEMBER", help="the same for versions that may skip numbers, if each put "
-        "gives a greater one, as etcd's revisions and memcached's cas tokens")
-    add("--new-revisions", metavar="MEMBER", help="csv, operations, with --revisions: the member in which a "
-        "put is answered the version that it gave. Then a put may ask for no version, and a delete for one "
-        "(delete-if) or for none")
-    add("--drop-versions", action="store_true", help="jepsen: each value is [version value], as in Jepsen's "
-        "test of etcd; only the values are checked")
+    _add_versions(parser)
     add("--keys", choices=["auto", "independent", "none"], default="auto",
         help="jepsen: whether a value is [key value] (default auto: if all calls' values are pairs)")
     add("--register", metavar="NAME",
@@ -92,6 +78,32 @@ def _add_meanings(parser: argparse.ArgumentParser) -> None:
         "unknown outcome unless --outcomes has it; the empty word is null too, and no such member")
     add("--ignore-member", metavar="NAME", action="append", default=[],
         help="this member or column means nothing; may be given again")
+
+
+def _add_clocks(parser: argparse.ArgumentParser) -> None:
+    """The options that say what the source's times mean."""
+    add = parser.add_argument
+    add("--clock-error", metavar="TIME", help="porcupine, csv, operations: how far a clock may be from the "
+        "true time, such as 5ms; calls become earlier and replies later by it")
+    add("--clock-unit", choices=["ns", "us", "ms", "s"], help="what a number of the source's clock means")
+    add("--duration-unit", choices=["clock", "ns", "us", "ms", "s"], help="csv, operations: what a number in "
+        "the column of the durations means (clock: it is of the unit of the times), unless its name or the "
+        "number says it, as in latency_ms and 5ms")
+
+
+def _add_versions(parser: argparse.ArgumentParser) -> None:
+    """The options that say where the versions of keys are."""
+    add = parser.add_argument
+    add("--versions", metavar="MEMBER", help="porcupine as JSON, csv, operations: a put takes place only if "
+        "its key has the version in this member, and then the key has the next one; a get is answered the "
+        "version there. Values and versions are checked at once, versions alone with --ignore-member Value")
+    add("--revisions", metavar="MEMBER", help="the same for versions that may skip numbers, if each put "
+        "gives a greater one, as etcd's revisions and memcached's cas tokens")
+    add("--new-revisions", metavar="MEMBER", help="csv, operations, with --revisions: the member in which a "
+        "put is answered the version that it gave. Then a put may ask for no version, and a delete for one "
+        "(delete-if) or for none")
+    add("--drop-versions", action="store_true", help="jepsen: each value is [version value], as in Jepsen's "
+        "test of etcd; only the values are checked")
 
 
 def plain_choices(form: str) -> Choices:

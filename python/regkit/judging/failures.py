@@ -24,5 +24,5 @@ def advice(history: bytes, refusal: str, name: str) -> str:
 
 
 def refusal_advice(history: bytes, answer: Answer, name: str) -> str:
-    """The same of an answer; where regsearch would decide the history and isn't there, that too."""
+    """The same of an answer; where regsearch would take the history and isn't there, that too."""
     return with_search_hint(advice(history, answer.refusal, name), history, answer)

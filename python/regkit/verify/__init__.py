@@ -44,7 +44,7 @@ OF_THE_RUN = ("input could not be read", "no memory or no thread", "output could
 class Verified(NamedTuple):
     """What holds, after each claim was checked."""
 
-    atomic: Optional[bool]  # None if the history is refused
+    atomic: Optional[bool]  # None if the history is refused; False also if a register is unknown
     operations: int = 0
     registers: int = 0
     faulty: int = 0  # how many lines of the report are of registers that aren't atomic
