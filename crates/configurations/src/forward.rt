@@ -59,7 +59,7 @@ pub fn go_forward(
 }
 
 /// How many words a set of so many slots has: a power of two.
-fn words_for(slots: usize) -> usize {
+pub(crate) fn words_for(slots: usize) -> usize {
     slots.div_ceil(64).next_power_of_two()
 }
 
@@ -85,7 +85,7 @@ fn most_open(ops: &[Op], events: &[Moment]) -> usize {
 }
 
 /// Whether a call of this number may need a slot.
-fn takes_slot(ops: &[Op], number: u32) -> bool {
+pub(crate) fn takes_slot(ops: &[Op], number: u32) -> bool {
     match ops.get(number as usize) {
         Some(op) => op.rank < NEVER || !looks(op),
         None => false,

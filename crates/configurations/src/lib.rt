@@ -14,11 +14,12 @@
 //! `is_of_use` with `freeing`, `is_led` with `has_elder`, and the looks in `offspring` and `add_call`.
 //!
 //! Read it in this order: `op` and `moment`; `bounds`, `reached` and `work`; `table`, the open calls;
-//! `config`; `call` and `reply`, one event; `outlook` and `guided`, where a yes alone
-//! counts; `run`, all of them; `eased` and `depth_first` (with
-//! `links` and `tried`), other ways to go; `stages` and `forward`.
+//! `config`; `call` and `reply`, one event; `outlook` and `guided`, where a yes alone counts; `run`, all of
+//! them; `eased`, `depth_first` (with `links` and `tried`) and `relay` (with `runner`, `baton` and `leg`),
+//! other ways to go; `stages` and `forward`.
 #![tactic(auto)]
 
+mod baton;
 mod bounds;
 mod call;
 mod config;
@@ -26,13 +27,16 @@ mod depth_first;
 mod eased;
 mod forward;
 mod guided;
+mod leg;
 mod links;
 mod moment;
 mod op;
 mod outlook;
 mod reached;
+mod relay;
 mod reply;
 mod run;
+mod runner;
 mod stages;
 mod table;
 mod tried;

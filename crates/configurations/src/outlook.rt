@@ -31,6 +31,42 @@ pub(crate) struct Outlook<const W: usize> {
     called: usize,
 }
 
+/// What is known of all calls.
+#[derive(Drop)]
+pub(crate) struct Needs {
+    given_by: Vec<usize>,
+    need: Vec<u32>,
+}
+
+/// What is known of the calls so far.
+#[derive(Drop)]
+pub(crate) struct Sight {
+    needed: Vec<u32>,
+    given: Vec<usize>,
+    called: usize,
+}
+
+impl Needs {
+    /// What is known of all calls, and of none so far.
+    pub(crate) fn new(
+        alloc: Global,
+        ops: &[Op],
+        events: &[Moment],
+        values: usize,
+    ) -> Result<(Self, Sight), AllocError> {
+        let outlook = Outlook::<1>::new(alloc, ops, events, values)?;
+        let sight = outlook.sight(alloc)?;
+        Ok((outlook.into_needs(), sight))
+    }
+}
+
+impl Sight {
+    /// A number above all values.
+    pub(crate) fn values(&self) -> usize {
+        self.needed.len()
+    }
+}
+
 /// Whether a configuration can have a value that is needed.
 #[derive(Clone, Copy, PartialEq, Eq)]
 pub(crate) enum Supply {
@@ -75,6 +111,49 @@ impl<const W: usize> Outlook<W> {
         };
         outlook.note_needs(ops);
         Ok(outlook)
+    }
+
+    /// After some calls, none of which is open yet.
+    pub(crate) fn over(alloc: Global, needs: Needs, sight: &Sight) -> Result<Self, AllocError>
+        requires room { 64 * W < 2 ^ 32 }
+    {
+        Ok(Outlook {
+            givers: no_slots(alloc, sight.values())?,
+            given_by: needs.given_by,
+            need: needs.need,
+            needed: Vec::from_slice(alloc, &sight.needed)?,
+            given: Vec::from_slice(alloc, &sight.given)?,
+            called: sight.called,
+        })
+    }
+
+    /// What is known of the calls so far.
+    pub(crate) fn sight(&self, alloc: Global) -> Result<Sight, AllocError> {
+        Ok(Sight {
+            needed: Vec::from_slice(alloc, &self.needed)?,
+            given: Vec::from_slice(alloc, &self.given)?,
+            called: self.called,
+        })
+    }
+
+    /// What is known of all calls.
+    pub(crate) fn into_needs(self) -> Needs {
+        Needs {
+            given_by: self.given_by,
+            need: self.need,
+        }
+    }
+
+    /// A call is open at a slot.
+    pub(crate) fn open(&mut self, op: &Op, slot: u32)
+        requires room { 64 * W < 2 ^ 32 }
+    {
+        if looks(op) {
+            return;
+        }
+        if let Some(givers) = self.givers.get_mut(op.to as usize) {
+            givers.insert(slot);
+        }
     }
 
     /// Counts, for each change, the calls after it that need its value.

@@ -87,7 +87,10 @@ fn search<const W: usize>(
 }
 
 /// Makes room for moves if there is none: those that led to none of the configurations are forgotten.
-fn forget_moves<const W: usize>(now: &Configs<W>, spent: &mut Work) -> Result<(), AllocError> {
+pub(crate) fn forget_moves<const W: usize>(
+    now: &Configs<W>,
+    spent: &mut Work,
+) -> Result<(), AllocError> {
     if spent.has_room() {
         return Ok(());
     }
@@ -95,6 +98,7 @@ fn forget_moves<const W: usize>(now: &Configs<W>, spent: &mut Work) -> Result<()
     for config in &now.list {
         spent.mark(&mut marks, config.last);
     }
+    spent.mark_kept(&mut marks);
     spent.forget(&marks);
     Ok(())
 }
@@ -138,7 +142,7 @@ fn last_move<const W: usize>(now: &Configs<W>) -> u32 {
 }
 
 /// The step over an event; true if no configuration was let go.
-fn step_over<const W: usize>(
+pub(crate) fn step_over<const W: usize>(
     table: &mut Table<W>,
     now: &mut Configs<W>,
     lists: &mut Lists<W>,

@@ -10,6 +10,7 @@ use crate::eased::eased_run;
 use crate::moment::Moment;
 use crate::op::{NEVER, Op, looks};
 use crate::reached::Reached;
+use crate::relay::relay;
 use crate::run::run;
 use crate::work::{Limits, Thrift};
 use std::alloc::{AllocError, Global};
@@ -28,28 +29,30 @@ enum Form {
     Thriftiest,
     /// The same as exact, but that a cas without a reply may take effect at any value: only a no counts.
     Eased,
+    /// In short legs, as thrifty: only a yes counts.
+    Relay,
     /// One order at a time: only a yes counts.
     DepthFirst,
 }
 
-/// A stage: its form, how many configurations go on from one reply to the next, how many a list may hold, and
-/// how many eighths of the steps that are left it may spend.
+/// A stage: its form, how many configurations go on from one reply to the next, how many a list may hold,
+/// and how many 64th parts of the steps that are left it may spend.
 #[derive(Clone, Copy)]
 struct Stage {
     form: Form,
     beam: usize,
     configurations: usize,
-    eighths: u64,
+    parts: u64,
 }
 
-/// A stage as one line: its form, its beam, its configurations and its eighths.
+/// A stage as one line: its form, its beam, its configurations and its parts of the steps.
 macro_rules! stage {
-    ($form:ident, $beam:expr, $configurations:expr, $eighths:expr) => {
+    ($form:ident, $beam:expr, $configurations:expr, $parts:expr) => {
         Stage {
             form: Form::$form,
             beam: $beam,
             configurations: $configurations,
-            eighths: $eighths,
+            parts: $parts,
         }
     };
 }
@@ -58,41 +61,41 @@ macro_rules! stage {
 const MOST: usize = usize::MAX;
 
 /// All that is left.
-const ALL: u64 = 8;
+const ALL: u64 = 64;
 
-/// The thriftiest stages get one of so many parts of their share: what they find takes them few steps.
-const PART_OF_THRIFTIEST: u64 = 4;
-
-/// The stages if some changes have no reply: first those that are quick where they suffice. An exact one
-/// comes before the eased one, since the reply that the latter names need not be the first hopeless one. The
-/// last is as wide as the bounds allow.
-const STAGES: [Stage; 13] = [
-    stage!(DepthFirst, 1, 1, 4),
-    stage!(Thriftiest, 8, MOST, 1),
-    stage!(Thriftiest, 32, MOST, 1),
-    stage!(Thrifty, 8, MOST, 6),
-    stage!(Thrifty, 32, MOST, 4),
+/// The stages if some changes have no reply: first those that are quick where they suffice, with few steps.
+/// An exact one comes before an eased one, since the reply that the latter names need not be the first
+/// hopeless one. The last is as wide as the bounds allow.
+const STAGES: [Stage; 16] = [
+    stage!(DepthFirst, 1, 1, 32),
+    stage!(Thriftiest, 8, MOST, 2),
+    stage!(Thriftiest, 32, MOST, 2),
+    stage!(Thrifty, 8, MOST, 1),
+    stage!(Thrifty, 32, MOST, 1),
     stage!(Exact, MOST, 256, 2),
-    stage!(Guided, 8, MOST, 2),
-    stage!(Guided, 32, MOST, 2),
-    stage!(Eased, MOST, 4_096, 5),
-    stage!(Exact, MOST, 1_024, 4),
-    stage!(Thrifty, 128, MOST, 2),
+    stage!(Eased, MOST, 4_096, 2),
+    stage!(Relay, 5, MOST, 58),
+    stage!(Thrifty, 32, MOST, 13),
+    stage!(Exact, MOST, 256, 20),
+    stage!(Guided, 8, MOST, 8),
+    stage!(Guided, 32, MOST, 8),
+    stage!(Eased, MOST, 4_096, 52),
+    stage!(Exact, MOST, 1_024, 24),
     stage!(Guided, 128, MOST, 4),
     stage!(Exact, MOST, MOST, ALL),
 ];
 
 /// The stages if each change has a reply.
 const ANSWERED: [Stage; 4] = [
-    stage!(Exact, MOST, 256, 6),
-    stage!(Guided, 32, MOST, 6),
-    stage!(Guided, 64, MOST, 6),
+    stage!(Exact, MOST, 256, 48),
+    stage!(Guided, 32, MOST, 48),
+    stage!(Guided, 64, MOST, 48),
     stage!(Exact, MOST, MOST, ALL),
 ];
 
 /// The stages that look for a reply that is hopeless before the one that eased operations show.
 const EARLIER: [Stage; 2] = [
-    stage!(Exact, MOST, 1_024, 6),
+    stage!(Exact, MOST, 1_024, 48),
     stage!(Exact, MOST, MOST, ALL),
 ];
 
@@ -207,6 +210,7 @@ fn run_stage<const W: usize>(
         Form::Thrifty => run::<W>(alloc, ops, events, &mut own)?,
         Form::Thriftiest => run::<W>(alloc, ops, events, &mut own)?,
         Form::Eased => eased_run::<W>(alloc, ops, events, &mut own)?,
+        Form::Relay => relay(alloc, ops, events, &mut own)?,
         Form::DepthFirst => depth_first(alloc, ops, events, &mut own)?,
     };
     limits.steps = limits.steps.saturating_sub(share.saturating_sub(own.steps));
@@ -215,27 +219,27 @@ fn run_stage<const W: usize>(
 
 /// Whether configurations are let go that are unlikely to explain what comes.
 fn is_guided(form: Form) -> bool {
-    matches!(form, Form::Guided | Form::Thrifty | Form::Thriftiest)
+    matches!(
+        form,
+        Form::Guided | Form::Thrifty | Form::Thriftiest | Form::Relay
+    )
 }
 
 /// How a stage of this form spares calls that never reply.
 fn thrift_of(form: Form) -> Thrift {
     match form {
         Form::Thriftiest => Thrift::Most,
-        Form::Thrifty => Thrift::Much,
+        Form::Thrifty | Form::Relay => Thrift::Much,
         Form::Guided | Form::Exact | Form::Eased | Form::DepthFirst => Thrift::Little,
     }
 }
 
-/// How many of the steps that are left a stage may spend, so that some are left for the others.
+/// How many of the steps that are left a stage may spend, so that some are left for the others: whole
+/// eighths, and then the rest of its parts.
 fn share_of(stage: Stage, steps: u64) -> u64 {
-    if stage.eighths == ALL {
+    if stage.parts == ALL {
         return steps;
     }
-    let share = (steps / ALL).saturating_mul(stage.eighths);
-    if stage.form == Form::Thriftiest {
-        share / PART_OF_THRIFTIEST
-    } else {
-        share
-    }
+    let eighths = (steps / 8).saturating_mul(stage.parts / 8);
+    eighths.saturating_add((steps / ALL).saturating_mul(stage.parts % 8))
 }

@@ -22,7 +22,7 @@ const CAS_COST: u32 = 8;
 const NO_CALL: usize = usize::MAX;
 
 /// No slot.
-const NO_SLOT: u32 = 0xffff_ffff;
+pub(crate) const NO_SLOT: u32 = 0xffff_ffff;
 
 /// The operations, the slots of the open calls, and which of them have which kind of call.
 #[derive(Drop)]
@@ -43,7 +43,7 @@ pub(crate) struct Table<const W: usize> {
     /// By value, the slots of the calls whose `from` it is.
     pub asks: Vec<Slots<W>>,
     /// By call, the last one before it that changes alike, if neither replies. Nothing rests on them.
-    elders: Vec<usize>,
+    pub elders: Vec<usize>,
 }
 
 impl<const W: usize> Table<W> {
@@ -65,6 +65,32 @@ impl<const W: usize> Table<W> {
             unanswered: Slots::none(),
             asks: nothing_asked(alloc, values)?,
             elders: elders(alloc, ops)?,
+        })
+    }
+
+    /// No open calls. Nothing rests on `slot_of` but that a call has had no slot to which one is given, and
+    /// nothing on `elders`.
+    pub(crate) fn over(
+        alloc: Global,
+        ops: Vec<Op>,
+        slot_of: Vec<u32>,
+        elders: Vec<usize>,
+        values: usize,
+    ) -> Result<Self, AllocError>
+        requires room { 64 * W < 2 ^ 32 }
+        ensures { IfOk result (λ t. IsTable t) }
+    {
+        Ok(Table {
+            ops,
+            calls: vec![in alloc; 0; 64 * W]?,
+            slot_of,
+            used: Slots::none(),
+            looks: Slots::none(),
+            writes: Slots::none(),
+            misses: Slots::none(),
+            unanswered: Slots::none(),
+            asks: nothing_asked(alloc, values)?,
+            elders,
         })
     }
 
@@ -243,7 +269,7 @@ impl<const W: usize> Table<W> {
 }
 
 /// For each call the last one before it that changes alike, if neither replies.
-fn elders(alloc: Global, ops: &[Op]) -> Result<Vec<usize>, AllocError> {
+pub(crate) fn elders(alloc: Global, ops: &[Op]) -> Result<Vec<usize>, AllocError> {
     let mut elders = Vec::new(alloc);
     let mut last = BTreeMap::new(alloc);
     for (place, op) in ops.iter().enumerate() {

@@ -102,6 +102,8 @@ pub(crate) struct Work {
     room: usize,
     /// The place of the event that is gone over.
     place: u32,
+    /// Moves that aren't forgotten, nor those before them.
+    kept: Vec<u32>,
 }
 
 impl Work {
@@ -117,6 +119,7 @@ impl Work {
             forgotten: NO_MOVE,
             room: LEAST_MOVES,
             place: 0,
+            kept: Vec::new(alloc),
         }
     }
 
@@ -141,6 +144,34 @@ impl Work {
     /// How many configurations go on from one reply to the next.
     pub(crate) fn beam(&self) -> usize {
         self.beam
+    }
+
+    /// So many go on from now on, and calls that never reply are spared like this.
+    pub(crate) fn widen(&mut self, beam: usize, thrift: Thrift) {
+        self.beam = beam;
+        self.thrift = thrift;
+    }
+
+    /// Leaves so many steps at most; gives how many are held back.
+    pub(crate) fn hold_back(&mut self, left: u64) -> u64 {
+        let held = self.steps.saturating_sub(left);
+        self.steps = self.steps.saturating_sub(held);
+        held
+    }
+
+    /// Gives back steps that were held back.
+    pub(crate) fn give_back(&mut self, held: u64) {
+        self.steps = self.steps.saturating_add(held);
+    }
+
+    /// These moves, and those before them, aren't forgotten.
+    pub(crate) fn keep(&mut self, moves: Vec<u32>) {
+        self.kept = moves;
+    }
+
+    /// The place of the event that is gone over.
+    pub(crate) fn place(&self) -> usize {
+        self.place as usize
     }
 
     /// Whether a yes alone counts.
@@ -242,6 +273,13 @@ impl Work {
             }
             *mark = true;
             at = one.before;
+        }
+    }
+
+    /// Marks the moves that aren't to be forgotten, whatever the configurations.
+    pub(crate) fn mark_kept(&self, marks: &mut [bool]) {
+        for last in &self.kept {
+            self.mark(marks, *last);
         }
     }
 
