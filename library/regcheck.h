@@ -33,7 +33,7 @@ enum regcheck_status {
 
 typedef struct regcheck_answer {
     uint32_t status; /* an enum regcheck_status */
-    uint32_t number; /* the number of the refusal, 1 to 15 or 19 to 21, or 17 if memory ran out; 0 if there
+    uint32_t number; /* the number of the refusal, 1 to 15 or 19 to 22, or 17 if memory ran out; 0 if there
                         is a report */
     uint32_t line;   /* the refused line, from 1; 0 if no line is refused */
     uint32_t other;  /* the line of the open call (refusal 9), of the earlier write (13) or of the crash (19);

@@ -1,10 +1,10 @@
 -- Each register has its initial write, and no other register has an operation.
-use Rattle.std.proofs.Common.{◌≡◌, ℕ, zero, suc, ◌+◌, ◌<◌, ◌≤◌, cond, not, Bool, true, false, List}
+use Rattle.std.proofs.Common.{◌≡◌, ℕ, zero, suc, ◌<◌, not, Bool, true, false, List}
 use Rattle.std.proofs.Common.{[], ◌∷◌, ◌++◌, length, slice_get, Option, Some, None, option_map}
-use Rattle.std.proofs.Common.{inl, inr, refl, sym, ap, subst, ◌∙◌, arith, eqb}
+use Rattle.std.proofs.Common.{inl, inr, refl, sym, ap, subst, ◌∙◌, arith}
 use Rattle.std.specs.Prelude.{bytes_eq, filter_map}
 use Rattle.std.specs.List.{cons_option}
-use Rattle.std.proofs.lemmas.Bool.{eqb-true, eqb-false}
+use Rattle.std.proofs.lemmas.Bool.{eqb-true}
 use Rattle.std.proofs.lemmas.List.Elements.{filter-append}
 use Rattle.std.proofs.lemmas.Slice.Eq.{bytes_eq-Decides}
 use Rattle.history_model.specs.History.{first_names}
@@ -16,32 +16,10 @@ use Rattle.history_model.specs.declared.operation.Operation.{Operation}
 use Rattle.history_model.specs.Operations.{initial_write, initial_writes, is_of, of_register}
 use Rattle.history_model.proofs.Filters.{filter-none}
 use Rattle.cas_history.specs.Events.{Called, called_by}
-use Rattle.cas_history.specs.History.{calls, calls_of, operations, register_names}
-use Rattle.cas_history.proofs.Described.{described}
-
--- ---- the initial writes
-
-none-initial : (n r : ℕ) → n ≤ r → of_register r (initial_writes n) ≡ []
-none-initial zero r l = refl
-none-initial (suc n) r l = go (eqb n r) refl (none-initial n r (omega (arith, l)))
-  where
-    go : (b : Bool) → eqb n r ≡ b → of_register r (initial_writes n) ≡ []
-        → cond b (initial_write n ∷ of_register r (initial_writes n)) (of_register r (initial_writes n)) ≡ []
-    go true d rest = absurd (omega (arith, eqb-true n r d, l))
-    go false d rest = rest
-
-one-initial : (n r : ℕ) → r < n → of_register r (initial_writes n) ≡ initial_write r ∷ []
-one-initial zero r l = absurd (omega (arith, l))
-one-initial (suc n) r l = go (eqb n r) refl (one-initial n r)
-  where
-    go : (b : Bool) → eqb n r ≡ b → (r < n → of_register r (initial_writes n) ≡ initial_write r ∷ [])
-        → cond b (initial_write n ∷ of_register r (initial_writes n)) (of_register r (initial_writes n))
-        ≡ initial_write r ∷ []
-    go true d rest =
-        let q = eqb-true n r d in
-        ap (λ ops. initial_write n ∷ ops) (none-initial n r (omega (arith, q)))
-        ∙ ap (λ k. initial_write k ∷ []) q
-    go false d rest = rest (let apart = eqb-false n r d in omega (arith, apart, l))
+use Rattle.cas_history.specs.History.{calls, calls_of, any_calls, number_of, operations, register_names}
+use Rattle.history_model.proofs.Accepted.{some-of}
+use Rattle.history_model.proofs.Initials.{none-initial, one-initial}
+use Rattle.history_model.proofs.Timed.{call-at}
 
 -- ---- the names that are called are names of registers
 
@@ -84,9 +62,11 @@ called-In (x ∷ events) (suc i) e call at h = go (called_by x.kind) (called-In 
 call-register : (events : List AnyEvent) (a : Operation) → In a (calls events)
     → a.register < length (register_names events)
 call-register events a i =
-    let c = described (length events + 2) (register_names events) 2 events a i in
-    let known = In-first _ c.called.register (called-In events c.place c.event c.called c.there c.calls) in
-    omega (arith, c.register, (place-in c.called.register (register_names events) known).0)
+    let c = call-at (any_calls (register_names events)) events a i in
+    let call = some-of (called_by c.event.kind) c.is_call in
+    let known = In-first _ call.0.register (called-In events c.place c.event call.0 c.there call.1) in
+    let place = c.register ∙ ap (number_of (register_names events)) call.1 in
+    omega (arith, place, (place-in call.0.register (register_names events) known).0)
 
 -- ---- all operations
 

@@ -10,10 +10,12 @@ use Rattle.history_text.specs.declared.limits.TheConstants.{MAX_EVENTS}
 use Rattle.history_model.specs.Lists.{last_with}
 use Rattle.history_model.proofs.Lists.{slice_get-push, slice_get-push_other}
 use Rattle.history_text.specs.declared.event.AnyEvent.{AnyEvent}
-use Rattle.cas_history.specs.Events.{is_of_process, last_event}
+use Rattle.history_model.specs.Table.{call_while_open, end_without_call, failing, last_event, late_refusal}
+use Rattle.history_model.specs.Table.{refusal_after, too_many}
+use Rattle.history_model.specs.declared.refusal.Reason.TheVariants.{Disagreement, NoValue}
+use Rattle.cas_history.specs.Events.{any_form, failed_by, replied_by}
 use Rattle.cas_history.specs.Kept.{IsKept}
-use Rattle.cas_history.specs.Refusals.{event_reason, call_while_open, end_without_call, reply_disagrees}
-use Rattle.cas_history.specs.Refusals.{fail_disagrees, reply_without_value, too_many}
+use Rattle.cas_history.specs.Refusals.{any_rules}
 use Rattle.history_model.proofs.Accepted.{or-first, or-second}
 
 -- the test of a map's keys is that of the processes
@@ -48,7 +50,7 @@ pub kept-push : (events : List AnyEvent) (e : AnyEvent) (old new : ℕ → Optio
 kept-push events e old new k room is = record {
   few = omega (arith, room, length-append events (e ∷ []));
   last =
-      λ p. last-push (is_of_process p) events e
+      λ p. last-push (λ (g : AnyEvent). eqb g.process p) events e
       ∙ (found p (eqb e.process p) (old p) refl
       ∙ ap (option_and_then (slice_get (events ++ e ∷ []))) (sym (at p)));
   within = λ p i h. inside p i (eqb e.process p) (old p) refl (sym (at p) ∙ h);
@@ -58,7 +60,7 @@ kept-push events e old new k room is = record {
     at p = is p ∙ ap (λ b. cond b (Some (length events)) (old p)) (same_key e.process p)
 
     found : (p : ℕ) (b : Bool) (o : Option ℕ) → old p ≡ o
-        → cond b (Some e) (last_event events p) ≡ option_and_then (slice_get (events ++ e ∷ []))
+        → cond b (Some e) (last_event any_form events p) ≡ option_and_then (slice_get (events ++ e ∷ []))
         (cond b (Some (length events)) o)
     found p true o q = sym (slice_get-push events e)
     found p false None q = k.last p ∙ ap (option_and_then (slice_get events)) q
@@ -73,16 +75,17 @@ kept-push events e old new k room is = record {
         let same : length events ≡ i = cc (h) in omega (arith, same, length-append events (e ∷ []))
     inside p i false o q h = omega (arith, k.within p i (q ∙ h), length-append events (e ∷ []))
 
--- an event without a reason has a place
-pub room : (count : ℕ) (last : Option AnyEvent) (e : AnyEvent) → event_reason count last e ≡ None
+-- an event without a refusal has a place
+pub room : (count : ℕ) (last : Option AnyEvent) (e : AnyEvent) → refusal_after any_rules count last e []
+    ≡ None
     → count < MAX_EVENTS
 room count last e h =
-    let h2 = or-second (call_while_open last e) _ h in
-    let h3 = or-second (end_without_call last e) _ h2 in
-    let h4 = or-second (reply_disagrees last e) _ h3 in
-    let h5 = or-second (fail_disagrees last e) _ h4 in
-    let h6 = or-second (reply_without_value last e) _ h5 in
-    below (or-first (too_many count) _ h6)
+    let h2 = or-second (call_while_open any_rules last e) _ h in
+    let h3 = or-second (end_without_call any_rules last e) _ h2 in
+    let h4 = or-second (failing any_rules _ Disagreement last e (replied_by e.kind)) _ h3 in
+    let h5 = or-second (failing any_rules _ Disagreement last e (failed_by e.kind)) _ h4 in
+    let h6 = or-second (failing any_rules _ NoValue last e (replied_by e.kind)) _ h5 in
+    below (or-first (too_many any_rules count e) _ (or-first (late_refusal any_rules count last e) _ h6))
   where
-    below : too_many count ≡ None → count < MAX_EVENTS
+    below : too_many any_rules count e ≡ None → count < MAX_EVENTS
     below h = grind arith

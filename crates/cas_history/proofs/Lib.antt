@@ -1,9 +1,10 @@
 pub mod Kept
 pub mod Named
 pub mod Backward
+pub mod Begun
 pub mod Parted
-pub mod Described
-pub mod Ascending
-pub mod Timed
 pub mod Initials
+pub mod Timed
 pub mod Rows
+pub mod Taking
+pub mod Walking

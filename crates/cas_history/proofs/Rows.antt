@@ -1,10 +1,11 @@
 -- Worked histories with cas, computed: why an event is refused, and the operations of a small history.
 use Rattle.std.proofs.Common.{◌≡◌, ℕ, pos, codes, List, [], ◌∷◌, Bool, true, false, Option, Some, None, refl}
+use Rattle.std.proofs.Common.{option_map}
 use Rattle.history_text.specs.declared.event.Val.{Val}
 use Rattle.history_text.specs.declared.event.Val.TheVariants.{Null, Int}
 use Rattle.history_text.specs.declared.event.AnyEvent.{AnyEvent}
 use Rattle.history_text.specs.declared.event.AnyKind.{AnyKind}
-use Rattle.history_text.specs.declared.event.AnyKind.TheVariants.{Plain, CallOther, Telling}
+use Rattle.history_text.specs.declared.event.AnyKind.TheVariants.{Plain, CallOther}
 use Rattle.history_text.specs.declared.event.OtherCall.TheVariants as other
 use Rattle.history_text.specs.declared.event.Kind.TheVariants.{CallRead, CallWrite, Reply, Fail, Crash}
 use Rattle.history_text.specs.declared.event.OpWord.TheVariants as word
@@ -12,9 +13,11 @@ use Rattle.history_model.specs.declared.act.Act.{Act}
 use Rattle.history_model.specs.declared.act.Act.TheVariants.{Read, Cas, Miss}
 use Rattle.history_model.specs.declared.operation.Operation.{Operation}
 use Rattle.cas_history.specs.History.{calls_of, register_names}
-use Rattle.cas_history.specs.Refusals.{event_reason, event_refusal}
-use Rattle.cas_history.specs.declared.refusal.Reason.TheVariants.{OpenCall, NoOpenCall, Disagreement}
-use Rattle.cas_history.specs.declared.refusal.Reason.TheVariants.{NoValue, TooMany, AfterCrash, NoOk}
+use Rattle.history_model.specs.Table.{refusal_after}
+use Rattle.history_model.specs.declared.refusal.Reason.{Reason}
+use Rattle.cas_history.specs.Refusals.{any_rules, event_refusal}
+use Rattle.history_model.specs.declared.refusal.Reason.TheVariants.{OpenCall, NoOpenCall, Disagreement}
+use Rattle.history_model.specs.declared.refusal.Reason.TheVariants.{NoValue, TooMany, AfterCrash, NoOk}
 
 abbrev event : ℕ → ℕ → AnyKind → AnyEvent
 event line process kind = record { line = line; process = process; kind = kind }
@@ -37,6 +40,9 @@ failed = Plain (Fail (record { op = None; register = None; value = None; ok = No
 
 -- ---- reasons
 
+abbrev event_reason : ℕ → Option AnyEvent → AnyEvent → Option Reason
+event_reason count last e = option_map (λ r. r.reason) (refusal_after any_rules count last e [])
+
 -- a cas's reply that doesn't say whether the cas took place; behind a write's or a read's call `ok` doesn't
 -- count
 no_ok : event_reason 1 (Some (event 1 1 (swap (codes "x") Null 1))) (event 2 1 (said None)) ≡ Some NoOk
@@ -50,7 +56,8 @@ write_without_ok : event_reason 1 (Some (event 1 1 (Plain (CallWrite (codes "x")
 write_without_ok = refl
 
 -- of two reasons the least number: the value 7 disagrees with a cas, and there is no `ok`
-value_before_ok : event_reason 1 (Some (event 1 1 (swap (codes "x") Null 1))) (event 2 1 (gave (Int (pos 7))))
+value_before_ok : event_reason 1 (Some (event 1 1 (swap (codes "x") Null 1)))
+    (event 2 1 (gave (Int (pos 7))))
     ≡ Some Disagreement
 value_before_ok = refl
 
@@ -80,7 +87,8 @@ not_open : event_reason 2 (Some (event 2 1 (said (Some true)))) (event 3 1 faile
 not_open = refl
 
 -- a reply behind a crash lacks no open call; past the limit the lesser number stands
-crashed : event_reason 2 (Some (event 2 1 (Plain Crash))) (event 3 1 (said (Some true))) ≡ Some (AfterCrash 2)
+crashed : event_reason 2 (Some (event 2 1 (Plain Crash))) (event 3 1 (said (Some true)))
+    ≡ Some (AfterCrash 2)
 crashed = refl
 
 past_the_limit : event_reason 1048576 (Some (event 2 1 (Plain Crash)))
@@ -121,7 +129,8 @@ done line call reply process act = called line call reply true process act
 
 -- nine events have the times 2 to 10, so a missing reply has time 11
 small_calls : calls_of small 0 ≡ done 1 2 4 1 (Cas Null (Int (pos 1))) ∷ done 2 3 6 2 (Miss Null)
-    ∷ called 7 8 11 false 2 (Cas (Int (pos 1)) (Int (pos 4))) ∷ done 8 9 10 1 (Read (Some (Int (pos 1)))) ∷ []
+    ∷ called 7 8 11 false 2 (Cas (Int (pos 1)) (Int (pos 4))) ∷ done 8 9 10 1 (Read (Some (Int (pos 1))))
+    ∷ []
 small_calls = refl
 
 failed_left_out : calls_of small 1 ≡ []

@@ -1,11 +1,9 @@
--- What an event says, and how the end of a call agrees with it (this project's profile). Of what went before,
--- only the last event of the event's process counts here.
-use Rattle.std.specs.Prelude.{ℕ, ℤ, ◌==◌, ◌&&◌, ◌||◌, List, Bool, true, false, not, cond, bytes_eq}
-use Rattle.std.specs.Prelude.{is_some, is_none, Option, Some, None, option_and_then}
-use Rattle.std.specs.Ordering.{int_eq}
+-- What an event says, and how the end of a call agrees with it (this project's profile).
+use Rattle.std.specs.Prelude.{ℕ, ◌&&◌, ◌||◌, List, Bool, true, false, not, cond}
+use Rattle.std.specs.Prelude.{is_some, is_none, Option, Some, None}
 use Rattle.history_text.specs.declared.event.Val.{Val}
 use Rattle.history_text.specs.declared.event.Val.TheVariants.{Null, Int}
-use Rattle.history_text.specs.Values.{is_absent, tells_nothing, value_eq, word_eq}
+use Rattle.history_text.specs.Values.{is_absent, tells_nothing, value_eq}
 use Rattle.history_text.specs.declared.event.Compared.{Compared}
 use Rattle.history_text.specs.declared.event.Compared.TheVariants.{From, Unless}
 use Rattle.history_text.specs.declared.event.OtherCall.{OtherCall}
@@ -20,8 +18,8 @@ use Rattle.history_text.specs.declared.event.ReplyParts.{ReplyParts}
 use Rattle.history_text.specs.declared.event.OpWord.{OpWord}
 use Rattle.history_text.specs.declared.event.OpWord.TheVariants as word
 use Rattle.history_model.specs.Events as plain
-use Rattle.history_model.specs.Events.{agrees}
-use Rattle.history_model.specs.Lists.{last_with}
+use Rattle.history_model.specs.Events.{parts_agree}
+use Rattle.history_model.specs.Table.{Form}
 use Rattle.cas_history.specs.declared.said.Asked.{Asked}
 use Rattle.cas_history.specs.declared.said.Asked.TheVariants as asked
 
@@ -70,33 +68,21 @@ told_by (Plain kind) = told_nothing
 told_by (CallOther name call) = told_nothing
 told_by (Telling parts told) = told
 
--- whether it is a reply or a fail
-abbrev pub is_end : AnyKind → Bool
-is_end kind = is_some (replied_by kind) || is_some (failed_by kind)
-
 abbrev pub is_crash : AnyKind → Bool
 is_crash (Plain kind) = plain.is_crash_kind kind
 is_crash (CallOther name call) = false
 is_crash (Telling parts told) = false
 
-abbrev pub is_of_process : ℕ → AnyEvent → Bool
-is_of_process p e = e.process == p
-
--- the last event of process p among some events
-abbrev pub last_event : List AnyEvent → ℕ → Option AnyEvent
-last_event before p = last_with (is_of_process p) before
-
--- the event, if it is a call: then it is open while it is the last one of its process
-abbrev pub open_call : Option AnyEvent → Option AnyEvent
-open_call last = option_and_then (λ e. cond (is_some (called_by e.kind)) (Some e) None) last
-
--- what the open call asks
-abbrev pub open_asked : Option AnyEvent → Option Called
-open_asked last = option_and_then (λ e. called_by e.kind) last
-
--- the event, if it is a crash
-abbrev pub crash_in : Option AnyEvent → Option AnyEvent
-crash_in last = option_and_then (λ e. cond (is_crash e.kind) (Some e) None) last
+-- how a program that takes a cas reads its events
+abbrev pub any_form : Form AnyEvent Called
+any_form = record {
+  line = λ e. e.line;
+  process = λ e. e.process;
+  asked_by = λ e. called_by e.kind;
+  replied_by = λ e. replied_by e.kind;
+  failed_by = λ e. failed_by e.kind;
+  is_crash = λ e. is_crash e.kind;
+}
 
 -- the word for what a call asks
 abbrev pub word_asked : Asked → OpWord
@@ -106,25 +92,17 @@ word_asked (asked.Cas cas) = word.Cas
 word_asked asked.Delete = word.Delete
 word_asked (asked.Swap n) = word.Swap
 
--- no value, or null
-abbrev pub is_no_value : Option Val → Bool
-is_no_value None = true
-is_no_value (Some Null) = true
-is_no_value (Some (Int n)) = false
-
--- no value, null, or this number
-abbrev pub is_number_or_no_value : ℤ → Option Val → Bool
-is_number_or_no_value n None = true
-is_number_or_no_value n (Some Null) = true
-is_number_or_no_value n (Some (Int m)) = int_eq m n
+-- the number that a write or a swap is to write
+abbrev pub number_to_write : Asked → Option Val
+number_to_write asked.Read = None
+number_to_write (asked.Write n) = Some (Int n)
+number_to_write (asked.Cas cas) = None
+number_to_write asked.Delete = None
+number_to_write (asked.Swap n) = Some (Int n)
 
 -- the value of a fail: null or none, or the number that a write or a swap was to write
 abbrev pub failed_value_agrees : Asked → Option Val → Bool
-failed_value_agrees asked.Read value = is_no_value value
-failed_value_agrees (asked.Write n) value = is_number_or_no_value n value
-failed_value_agrees (asked.Cas cas) value = is_no_value value
-failed_value_agrees asked.Delete value = is_no_value value
-failed_value_agrees (asked.Swap n) value = is_number_or_no_value n value
+failed_value_agrees asked value = plain.failed_value_agrees (number_to_write asked) value
 
 -- the value of a reply: the same, but that a read's reply may give any
 abbrev pub value_agrees : Asked → Option Val → Bool
@@ -134,16 +112,13 @@ value_agrees (asked.Cas cas) value = failed_value_agrees (asked.Cas cas) value
 value_agrees asked.Delete value = failed_value_agrees asked.Delete value
 value_agrees (asked.Swap n) value = failed_value_agrees (asked.Swap n) value
 
--- the operation and the register, where they are named, are the call's
-abbrev pub parts_agree : Called → ReplyParts → Bool
-parts_agree call parts =
-    agrees word_eq parts.op (word_asked call.asked) && agrees bytes_eq parts.register call.register
-
 abbrev pub reply_agrees : Called → ReplyParts → Bool
-reply_agrees call reply = parts_agree call reply && value_agrees call.asked reply.value
+reply_agrees call reply =
+    parts_agree (word_asked call.asked) call.register (value_agrees call.asked reply.value) reply
 
 abbrev pub fail_agrees : Called → ReplyParts → Bool
-fail_agrees call parts = parts_agree call parts && failed_value_agrees call.asked parts.value
+fail_agrees call fail =
+    parts_agree (word_asked call.asked) call.register (failed_value_agrees call.asked fail.value) fail
 
 -- the reply to a read gives no value, and has no `found` either
 abbrev pub is_without_value : Asked → Option Val → Told → Bool

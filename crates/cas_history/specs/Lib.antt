@@ -2,5 +2,6 @@ pub mod Events
 pub mod Refusals
 pub mod Told
 pub mod History
-pub mod Timed
 pub mod Kept
+pub mod Taken
+pub mod Input

@@ -7,15 +7,26 @@ ghost use Rattle.cas_history.specs.Events as defined;
 use crate::said::Asked;
 use history_text::{Compared, Name, OpWord, OptionalName, ReplyParts, Told, Val};
 
-/// Whether the operation and the register, where they are named, are those of the call.
-pub(crate) fn parts_agree(register: &Name, asked: Asked, parts: &ReplyParts) -> bool
-    ensures { result ≡ defined.parts_agree (record { register = register.now; asked = asked }) parts.now }
+/// Whether a reply agrees with its call.
+pub(crate) fn reply_agrees(register: &Name, asked: Asked, reply: &ReplyParts) -> bool
+    ensures { result ≡ defined.reply_agrees (record { register = register.now; asked = asked }) reply.now }
 {
-    op_agrees(parts.op, asked) && register_agrees(&parts.register, register)
+    op_agrees(reply.op, asked)
+        && register_agrees(&reply.register, register)
+        && value_agrees(asked, reply.value)
+}
+
+/// Whether a fail agrees with its call.
+pub(crate) fn fail_agrees(register: &Name, asked: Asked, fail: &ReplyParts) -> bool
+    ensures { result ≡ defined.fail_agrees (record { register = register.now; asked = asked }) fail.now }
+{
+    op_agrees(fail.op, asked)
+        && register_agrees(&fail.register, register)
+        && failed_value_agrees(asked, fail.value)
 }
 
 /// Whether the value of a reply is one that such a call may get.
-pub(crate) fn value_agrees(asked: Asked, value: Option<Val>) -> bool
+fn value_agrees(asked: Asked, value: Option<Val>) -> bool
     ensures { result ≡ defined.value_agrees asked value }
 {
     match asked {
@@ -27,13 +38,16 @@ pub(crate) fn value_agrees(asked: Asked, value: Option<Val>) -> bool
 }
 
 /// The same of a fail.
-pub(crate) fn failed_value_agrees(asked: Asked, value: Option<Val>) -> bool
+fn failed_value_agrees(asked: Asked, value: Option<Val>) -> bool
     ensures { result ≡ defined.failed_value_agrees asked value }
 {
-    match asked {
-        Asked::Write(number) => is_number_or_no_value(number, value),
-        Asked::Swap(number) => is_number_or_no_value(number, value),
-        Asked::Read | Asked::Cas(_) | Asked::Delete => is_no_value(value),
+    match value {
+        None | Some(Val::Null) => true,
+        Some(Val::Int(said)) => match asked {
+            Asked::Write(number) => said == number,
+            Asked::Swap(number) => said == number,
+            Asked::Read | Asked::Cas(_) | Asked::Delete => false,
+        },
     }
 }
 
@@ -138,23 +152,5 @@ pub(crate) fn word_asked(asked: Asked) -> OpWord
         Asked::Cas(_) => OpWord::Cas,
         Asked::Delete => OpWord::Delete,
         Asked::Swap(_) => OpWord::Swap,
-    }
-}
-
-fn is_no_value(value: Option<Val>) -> bool
-    ensures { result ≡ defined.is_no_value value }
-{
-    match value {
-        None | Some(Val::Null) => true,
-        Some(Val::Int(_)) => false,
-    }
-}
-
-fn is_number_or_no_value(number: i64, value: Option<Val>) -> bool
-    ensures { result ≡ defined.is_number_or_no_value number value }
-{
-    match value {
-        None | Some(Val::Null) => true,
-        Some(Val::Int(said)) => said == number,
     }
 }

@@ -1,9 +1,11 @@
 //! The operations of the calls, each by the next event of its process.
-ghost use Rattle.std.specs.Prelude.{◌≡◌, ◌≤◌, ◌+◌, length, map, reverse, IfOk, option_map};
+ghost use Rattle.std.specs.Prelude.{◌≡◌, ◌≤◌, ◌+◌, ℕ, List, Some, length, map, reverse, IfOk, option_map};
+ghost use Rattle.std.specs.Prelude.{unwrap_or};
 ghost use Rattle.std.specs.Ordering.{nat_cmp};
 ghost use Rattle.std.specs.BTreeMap.{get};
+ghost use Rattle.history_model.specs.Calls as all;
 ghost use Rattle.cas_history.specs.History as defined;
-ghost use Rattle.cas_history.specs.Kept.{event_at};
+ghost use Rattle.cas_history.specs.Kept.{event_at, operation_at as begun_at};
 
 use crate::act::{pending_act, replied_act};
 use crate::agrees::word_asked;
@@ -24,7 +26,7 @@ pub(crate) fn calls_backward(
     requires events_few { length events.now ≤ MAX_EVENTS }
     requires names_few { length naming.now ≤ MAX_EVENTS }
     ensures { IfOk result (λ calls. reverse calls.items
-        ≡ defined.calls_from (length events.now + 2) naming.now 2 events.now) }
+        ≡ all.calls_from (defined.any_calls naming.now) (length events.now + 2) 2 events.now) }
 {
     let after_all = events.len() as u32 + 2;
     let mut calls = Vec::new(alloc);
@@ -65,27 +67,30 @@ fn operation_at(
     next: Option<(u32, &AnyEvent)>,
 ) -> Option<Operation>
     requires { length naming.now ≤ MAX_EVENTS }
-    ensures { result ≡ defined.operation_at after_all naming.now time event.now
+    ensures { result ≡ begun_at (defined.any_calls naming.now) after_all time event.now
         (option_map (λ next. (next.0, next.1.now)) next.entry) }
 {
-    let (name, asked) = called(&event.kind)?;
+    let Some((name, asked)) = called(&event.kind) else {
+        return None;
+    };
     if has_failed(next) {
         return None;
     }
-    let reply = reply_time(next);
+    let reply = reply_in(next);
     Some(Operation {
         line: event.line,
         call: time,
-        reply: reply.unwrap_or(after_all),
+        reply: time_of(reply, after_all),
         completed: reply.is_some(),
         process: Some(event.process),
         register: naming.register(name),
-        act: act_of(asked, next),
+        act: act_of(asked, reply),
     })
 }
 
 fn has_failed(next: Option<(u32, &AnyEvent)>) -> bool
-    ensures { result ≡ defined.has_failed (option_map (λ next. (next.0, next.1.now)) next.entry) }
+    ensures { (names : List (List ℕ)) → result
+        ≡ all.has_failed (defined.any_calls names) (option_map (λ next. (next.0, next.1.now)) next.entry) }
 {
     match next {
         None => false,
@@ -93,20 +98,31 @@ fn has_failed(next: Option<(u32, &AnyEvent)>) -> bool
     }
 }
 
-fn reply_time(next: Option<(u32, &AnyEvent)>) -> Option<u32>
-    ensures { result ≡ defined.time_of_reply (option_map (λ next. (next.0, next.1.now)) next.entry) }
+/// The next event of a process, if it is a reply.
+fn reply_in(next: Option<(u32, &AnyEvent)>) -> Option<(u32, &AnyEvent)>
+    ensures { (names : List (List ℕ)) → option_map (λ reply. (reply.0, reply.1.now)) result
+        ≡ all.reply_in (defined.any_calls names) (option_map (λ next. (next.0, next.1.now)) next.entry) }
 {
     let (time, event) = next?;
     let _reply = replied(&event.kind)?;
-    Some(time)
+    Some((time, event))
 }
 
-fn act_of(asked: Asked, next: Option<(u32, &AnyEvent)>) -> Act
-    ensures { result ≡ defined.act_of asked
-        (defined.reply_in (option_map (λ next. (next.0, next.1.now)) next.entry))
-        (defined.told_in (option_map (λ next. (next.0, next.1.now)) next.entry)) }
+/// The time of a reply, or else this one.
+fn time_of(reply: Option<(u32, &AnyEvent)>, after_all: u32) -> u32
+    ensures { result ≡ unwrap_or (option_map (λ reply. reply.0) reply.entry) after_all }
 {
-    match next {
+    match reply {
+        None => after_all,
+        Some((time, _)) => time,
+    }
+}
+
+fn act_of(asked: Asked, reply: Option<(u32, &AnyEvent)>) -> Act
+    ensures { (name : List ℕ) → result ≡ defined.act_of (Some (record { register = name; asked = asked }))
+        (option_map (λ reply. reply.1.now) reply.entry) }
+{
+    match reply {
         None => pending_act(asked),
         Some((_, event)) => match replied(&event.kind) {
             None => pending_act(asked),

@@ -1,16 +1,17 @@
 //! The events of the lines so far.
 ghost use Rattle.std.specs.Prelude.{◌≡◌, ◌++◌, ◌∷◌, [], None, IfErr, IfOk, OnErr, OnOk};
 ghost use Rattle.std.specs.Option.{option_copied};
-ghost use Rattle.cas_history.specs.Events.{last_event};
+ghost use Rattle.history_model.specs.Table.{last_event};
+ghost use Rattle.cas_history.specs.Events.{any_form};
 ghost use Rattle.cas_history.specs.History.{IsHistoryOf};
-ghost use Rattle.cas_history.specs.Refusals.{IsTakeError, event_refusal};
+ghost use Rattle.cas_history.specs.Refusals.{IsTakeError, event_refusal as refusal_of};
 
 use crate::calls::{call_words, calls_backward};
 use crate::history::History;
 use crate::naming::Naming;
-use crate::reason::event_reason;
-use crate::refusal::{BuildError, LineRefusal};
+use crate::reason::event_refusal;
 use crate::registers::by_register;
+use history_model::BuildError;
 use history_text::AnyEvent;
 use std::alloc::{AllocError, Global};
 use std::collections::BTreeMap;
@@ -55,15 +56,14 @@ impl Events {
     /// `Refused` if the event is refused after the others, and `Memory`. The events are as they were then.
     pub fn take(&mut self, event: AnyEvent) -> Result<(), BuildError>
         ensures ok { OnOk result (self.new ≡ self.old ++ event ∷ []) }
-        ensures accepted { OnOk result (event_refusal self.old event ≡ None) }
+        ensures accepted { OnOk result (refusal_of self.old event ≡ None) }
         ensures err { IfErr result (IsTakeError self.old event) }
         ensures same { OnErr result (self.new ≡ self.old) }
     {
         let place = self.events.len();
         let last = self.last_of(event.process);
-        if let Some(reason) = event_reason(place, last, &event) {
-            let line = event.line;
-            return Err(BuildError::Refused(LineRefusal { line, reason }));
+        if let Some(refusal) = event_refusal(place, last, &event) {
+            return Err(BuildError::Refused(refusal));
         }
         let process = event.process;
         if self.events.push(event).is_err() {
@@ -80,7 +80,7 @@ impl Events {
 
     /// The last event of a process.
     fn last_of(&self, process: u32) -> Option<&AnyEvent>
-        ensures { option_copied result ≡ last_event self.now process }
+        ensures { option_copied result ≡ last_event any_form self.now process }
     {
         let place = *self.last.get(&process)?;
         self.events.get(place)

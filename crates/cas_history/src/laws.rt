@@ -3,7 +3,7 @@ ghost use Rattle.std.specs.Prelude.{◌≡◌, ◌<◌, ◌∷◌, [], ℕ, List
 ghost use Rattle.history_text.specs.declared.event.AnyEvent.{AnyEvent as AnEvent};
 ghost use Rattle.history_model.specs.Operations.{initial_write, of_register};
 ghost use Rattle.cas_history.specs.History.{calls_of, operations, register_names};
-ghost use Rattle.cas_history.specs.Timed.{AreTimedCalls};
+ghost use Rattle.history_model.specs.Timed.{AreTimedCalls};
 
 /// The calls of each register stand in time as those of a history: whatever events they are of.
 pub fn calls_are_timed()

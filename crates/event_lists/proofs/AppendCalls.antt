@@ -16,7 +16,8 @@ use Rattle.history_model.specs.Walking.{key_at, by_process}
 use Rattle.history_model.specs.Naming.{begins_at}
 use Rattle.event_lists.specs.EventLists.{IsCall, IsCallAt, calls_with}
 use Rattle.event_lists.specs.Tables.{item_at}
-use Rattle.history_model.proofs.Belonging.{drop-get, next-some, next-none}
+use Rattle.history_model.proofs.Calling.{drop-get, next-some, next-none}
+use Rattle.history_model.specs.Operations.{plain_calls}
 use Rattle.history_model.proofs.Lists.{slice_get-push, slice_get-push_other, option_or-none}
 use Rattle.event_lists.proofs.Append.{key-within}
 use Rattle.event_lists.proofs.Columns.{item-push, item-push_none, item-push_other, item-set, item-set_other}
@@ -52,7 +53,7 @@ next-alone es i p h = go (next_of p (suc (i + 2)) (drop (suc i) es)) refl
     go : (o : Option (ℕ × Event)) → next_of p (suc (i + 2)) (drop (suc i) es) ≡ o → o ≡ None
     go None n = refl
     go (Some r) n =
-        let x = next-some p (suc (i + 2)) (drop (suc i) es) r n in
+        let x = next-some plain_calls p (suc (i + 2)) (drop (suc i) es) r n in
         absurd (h (suc i + x.place) (omega arith)
         (ap (option_and_then by_process) (sym (drop-get es (suc i) x.place) ∙ x.there)
         ∙ ap Some x.process))
@@ -72,7 +73,8 @@ next-known es i p u lt key = go (next_of p (suc (i + 2)) (drop (suc i) es)) refl
     go None n =
         let g = there (slice_get es u) refl key in
         let z : suc i + (u - suc i) ≡ u = omega (arith, lt) in
-        absurd (next-none p (suc (i + 2)) (drop (suc i) es) n (u - suc i) g.0 (drop-get es (suc i) (u - suc i)
+        absurd (next-none plain_calls p (suc (i + 2)) (drop (suc i) es) n (u - suc i) g.0
+        (drop-get es (suc i) (u - suc i)
         ∙ (ap (slice_get es) z ∙ g.1)) g.2)
 
 -- ---- the calls after an append

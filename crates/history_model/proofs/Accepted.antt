@@ -225,7 +225,7 @@ call-replies (Reply parts) a h = absurd (cc (h))
 call-replies (Fail parts) a h = absurd (cc (h))
 call-replies Crash a h = absurd (cc (h))
 
-some-of : {A : Type 0} (o : Option A) → is_some o ≡ true → (x : A) × (o ≡ Some x)
+pub some-of : {A : Type 0} (o : Option A) → is_some o ≡ true → (x : A) × (o ≡ Some x)
 some-of None h = absurd (false≢true h)
 some-of (Some x) h = (x, refl)
 

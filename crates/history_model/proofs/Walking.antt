@@ -2,10 +2,12 @@
 -- each is the operation that its name names.
 use Rattle.std.proofs.Common.{◌≡◌, ℕ, zero, suc, ◌+◌, ◌-◌, ◌<◌, ◌≤◌, ◌&&◌, not, cond, Bool, true, false}
 use Rattle.std.proofs.Common.{List, [], ◌∷◌, length, drop, slice_get, Option, Some, None, inl, inr}
-use Rattle.std.proofs.Common.{refl, sym, ap, subst, ◌∙◌, arith, option_map, option_and_then}
+use Rattle.std.proofs.Common.{refl, sym, ap, ◌∙◌, arith, option_map, option_and_then}
 use Rattle.std.proofs.lemmas.Bool.{eq-eqb, ne_eqb, false≢true}
 use Rattle.std.proofs.lemmas.Option.{slice_get_within}
 use Rattle.history_text.specs.declared.event.Val.{Val}
+use Rattle.history_model.specs.Operations.{plain_calls}
+use Rattle.history_model.proofs.Calling as all
 use Rattle.history_model.specs.Lists.{In}
 use Rattle.history_model.specs.History.{History}
 use Rattle.history_model.specs.Operations.{operation, next_of, reply_in}
@@ -231,47 +233,12 @@ walk-ends r es i (Some j) on h =
 
 -- the operation o is that of the event e at place k, where the first event has time s
 abbrev pub IsOperationAt : ℕ → ℕ → List Event → Operation → ℕ → Event → Type 0
-IsOperationAt n s es o k e =
-    (slice_get es k ≡ Some e) × (begins e (next_of e.process (suc (s + k)) (drop (suc k) es)) ≡ true)
-    × (o ≡ operation n (s + k) e (reply_in (next_of e.process (suc (s + k)) (drop (suc k) es))))
+IsOperationAt n s es o k e = all.IsOperationAt plain_calls n s es o k e
 
 -- an operation among the calls is that of an event
 pub is-called : (n s : ℕ) (es : List Event) (o : Operation) → In o (calls_from n s es)
     → (k : ℕ) × (e : Event) × IsOperationAt n s es o k e
-is-called n s [] o h = elim h [ ]
-is-called n s (e ∷ es) o h = go (begins e (next_of e.process (suc s) es)) refl h (is-called n (suc s) es o)
-  where
-    later : ((k : ℕ) × (f : Event) × IsOperationAt n (suc s) es o k f)
-        → (k : ℕ) × (f : Event) × IsOperationAt n s (e ∷ es) o k f
-    later x =
-        let t : suc s + x.0 ≡ s + suc x.0 = omega arith in
-        let y = x.2 in (
-          suc x.0,
-          x.1,
-          (
-            y.0,
-            subst (λ m. begins x.1 (next_of x.1.process (suc m) (drop (suc x.0) es)) ≡ true) t y.1,
-            y.2 ∙ ap (λ m. operation n m x.1 (reply_in (next_of x.1.process (suc m) (drop (suc x.0) es)))) t,
-          ),
-        )
-
-    go : (b : Bool) → begins e (next_of e.process (suc s) es) ≡ b
-        → In o (cond b (operation n s e (reply_in (next_of e.process (suc s) es)) ∷ calls_from n (suc s) es)
-        (calls_from n (suc s) es))
-        → (In o (calls_from n (suc s) es) → (k : ℕ) × (f : Event) × IsOperationAt n (suc s) es o k f)
-        → (k : ℕ) × (f : Event) × IsOperationAt n s (e ∷ es) o k f
-    go true d (inl q) rest =
-        let t : s ≡ s + 0 = omega arith in (
-          0,
-          e,
-          (
-            refl,
-            subst (λ m. begins e (next_of e.process (suc m) es) ≡ true) t d,
-            q ∙ ap (λ m. operation n m e (reply_in (next_of e.process (suc m) es))) t,
-          ),
-        )
-    go true d (inr i) rest = later (rest i)
-    go false d i rest = later (rest i)
+is-called = all.is-called plain_calls
 
 initial-process : (m : ℕ) (o : Operation) → In o (initial_writes m) → o.process ≡ None
 initial-process zero o h = elim h [ ]

@@ -1,17 +1,19 @@
 -- What an event says, and which call a reply or a fail ends.
-use Rattle.std.specs.Prelude.{ℕ, ◌==◌, ◌&&◌, List, Bool, true, false, cond, bytes_eq}
-use Rattle.std.specs.Prelude.{is_some, Option, Some, None, option_and_then}
+use Rattle.std.specs.Prelude.{ℕ, ◌==◌, ◌&&◌, List, Bool, true, false, bytes_eq}
+use Rattle.std.specs.Prelude.{is_some, Option, Some, None}
 use Rattle.std.specs.Option.{option_or}
 use Rattle.history_text.specs.Values.{value_eq, word_of, word_eq}
 use Rattle.history_text.specs.declared.event.Val.{Val}
 use Rattle.history_text.specs.declared.event.Val.TheVariants.{Null, Int}
 use Rattle.history_text.specs.declared.event.OpKind.{OpKind}
+use Rattle.history_text.specs.declared.event.OpWord.{OpWord}
 use Rattle.history_text.specs.declared.event.OpKind.TheVariants.{ReadOp, WriteOp}
 use Rattle.history_text.specs.declared.event.Kind.{Kind}
 use Rattle.history_text.specs.declared.event.Kind.TheVariants.{CallRead, CallWrite, Reply, Fail, Crash}
 use Rattle.history_text.specs.declared.event.ReplyParts.{ReplyParts}
 use Rattle.history_text.specs.declared.event.LineEvent.{LineEvent}
-use Rattle.history_model.specs.Lists.{last_with}
+use Rattle.history_model.specs.Table as table
+use Rattle.history_model.specs.Table.{Form}
 
 -- what a call asks for: a register by its name, a read or a write, and the value that a write writes
 pub record Asked : Type 0 where
@@ -60,21 +62,32 @@ is_crash e = is_crash_kind e.kind
 abbrev pub is_of_process : ℕ → LineEvent → Bool
 is_of_process p e = e.process == p
 
+-- how a program of reads and writes reads its events
+abbrev pub plain_form : Form LineEvent Asked
+plain_form = record {
+  line = λ e. e.line;
+  process = λ e. e.process;
+  asked_by = λ e. asked_by e.kind;
+  replied_by = λ e. replied_by e.kind;
+  failed_by = λ e. failed_by e.kind;
+  is_crash = is_crash;
+}
+
 -- the last event of process p after some events
 abbrev pub last_event : List LineEvent → ℕ → Option LineEvent
-last_event before p = last_with (is_of_process p) before
+last_event before p = table.last_event plain_form before p
 
 -- the call that process p has open after some events: the last event of p, if that is a call
 abbrev pub open_call : List LineEvent → ℕ → Option LineEvent
-open_call before p = option_and_then (λ e. cond (is_call e) (Some e) None) (last_event before p)
+open_call before p = table.open_call plain_form (last_event before p)
 
 -- what the open call asks for
 abbrev pub open_asked : List LineEvent → ℕ → Option Asked
-open_asked before p = option_and_then (λ e. asked_by e.kind) (open_call before p)
+open_asked before p = table.open_asked plain_form (last_event before p)
 
 -- the crash of process p before: the last event of p, if that is a crash
 abbrev pub crashed_at : List LineEvent → ℕ → Option LineEvent
-crashed_at before p = option_and_then (λ e. cond (is_crash e) (Some e) None) (last_event before p)
+crashed_at before p = table.crashed plain_form (last_event before p)
 
 -- absent, or equal
 abbrev pub agrees : {A : Type 0} → (A → A → Bool) → Option A → A → Bool
@@ -95,14 +108,15 @@ failed_value_agrees None None = true
 failed_value_agrees None (Some Null) = true
 failed_value_agrees None (Some (Int n)) = false
 
--- a reply agrees with its call: each thing that it says is as in the call, the register's name by its text
+-- what a reply or a fail says is as in the call, the register's name by its text, and so is the value
+abbrev pub parts_agree : OpWord → List ℕ → Bool → ReplyParts → Bool
+parts_agree word register value_is parts =
+    agrees word_eq parts.op word && agrees bytes_eq parts.register register && value_is
+
 abbrev pub reply_agrees : Asked → ReplyParts → Bool
 reply_agrees call reply =
-    agrees word_eq reply.op (word_of call.kind) && agrees bytes_eq reply.register call.register
-    && value_agrees call.value reply.value
+    parts_agree (word_of call.kind) call.register (value_agrees call.value reply.value) reply
 
--- the same of a fail
 abbrev pub fail_agrees : Asked → ReplyParts → Bool
 fail_agrees call fail =
-    agrees word_eq fail.op (word_of call.kind) && agrees bytes_eq fail.register call.register
-    && failed_value_agrees call.value fail.value
+    parts_agree (word_of call.kind) call.register (failed_value_agrees call.value fail.value) fail

@@ -1,9 +1,12 @@
 pub mod Lists
+pub mod Table
 pub mod Events
 pub mod Refusals
 pub mod History
 pub mod Acts
+pub mod Calls
 pub mod Operations
+pub mod Timed
 pub mod Legal
 pub mod InTurn
 pub mod Placed

@@ -1,12 +1,15 @@
 -- The operations of a history: each register's initial write, and each call that didn't fail, with its reply.
-use Rattle.std.specs.Prelude.{◌≡◌, ℕ, zero, suc, ◌+◌, ◌<◌, ◌≤◌, ◌==◌, ◌&&◌, not, cond, Bool, true, false}
-use Rattle.std.specs.Prelude.{List, [], ◌∷◌, ◌++◌, length, Option, Some, None, option_and_then, ◌⊎◌}
+use Rattle.std.specs.Prelude.{◌≡◌, ℕ, zero, suc, ◌<◌, ◌≤◌, ◌==◌, cond, Bool, true, false}
+use Rattle.std.specs.Prelude.{List, [], ◌∷◌, ◌++◌, length, Option, Some, None, ◌⊎◌}
 use Rattle.std.specs.List.{filter}
 use Rattle.history_text.specs.declared.event.Val.{Val}
 use Rattle.history_text.specs.declared.event.Val.TheVariants.{Null}
 use Rattle.history_text.specs.declared.event.OpKind.{OpKind}
 use Rattle.history_text.specs.declared.event.OpKind.TheVariants.{ReadOp, WriteOp}
 use Rattle.history_model.specs.Acts.{asks, changes, is_plain, kind_of_act, plain_act, value_of_act}
+use Rattle.history_model.specs.Calls as all
+use Rattle.history_model.specs.Calls.{Calls}
+use Rattle.history_model.specs.declared.act.Act.{Act}
 use Rattle.history_model.specs.declared.act.Act.TheVariants.{Write}
 use Rattle.history_model.specs.declared.operation.Operation.{Operation}
 use Rattle.history_model.specs.declared.ids.RegId.{RegId}
@@ -54,57 +57,44 @@ abbrev pub writes : OpKind → Bool
 writes ReadOp = false
 writes WriteOp = true
 
--- the first event of process p among those from time s on, with its time
+-- what a call did: a write has the value of its call, a read that of its reply
+abbrev pub act_by_reply : Event → Option Event → Act
+act_by_reply e None = plain_act (kind_in e.what) e.value
+act_by_reply e (Some r) = plain_act (kind_in e.what) (cond (writes (kind_in e.what)) e.value r.value)
+
+-- the calls of a program of reads and writes
+abbrev pub plain_calls : Calls Event
+plain_calls = record {
+  line = λ e. e.line;
+  process = λ e. e.process;
+  is_call = λ e. is_a_call e.what;
+  is_reply = λ e. is_a_reply e.what;
+  is_fail = λ e. is_a_fail e.what;
+  register = λ e. number_in e.register;
+  act = act_by_reply;
+}
+
 abbrev pub next_of : ℕ → ℕ → List Event → Option (ℕ × Event)
-next_of p s [] = None
-next_of p s (e ∷ es) = cond (e.process == p) (Some (s, e)) (next_of p (suc s) es)
+next_of p s es = all.next_of plain_calls p s es
 
--- the next event of a call's process, if that is its reply
 abbrev pub reply_in : Option (ℕ × Event) → Option (ℕ × Event)
-reply_in next = option_and_then (λ r. cond (is_a_reply r.1.what) (Some r) None) next
+reply_in next = all.reply_in plain_calls next
 
--- whether a call failed, by the next event of its process
 abbrev pub has_failed : Option (ℕ × Event) → Bool
-has_failed None = false
-has_failed (Some r) = is_a_fail r.1.what
+has_failed next = all.has_failed plain_calls next
 
--- whether an event begins an operation, by the next event of its process: it is a call that didn't fail
 abbrev pub begins : Event → Option (ℕ × Event) → Bool
-begins e next = is_a_call e.what && not (has_failed next)
+begins e next = all.begins plain_calls e next
 
--- The operation of the call e at time t, by its reply; n is the time of a missing reply. A write has the
--- value of its call, a read that of its reply.
 abbrev pub operation : ℕ → ℕ → Event → Option (ℕ × Event) → Operation
-operation n t e None = record {
-  line = e.line;
-  call = t;
-  reply = n;
-  completed = false;
-  process = Some e.process;
-  register = number_in e.register;
-  act = plain_act (kind_in e.what) e.value;
-}
-operation n t e (Some r) = record {
-  line = e.line;
-  call = t;
-  reply = r.0;
-  completed = true;
-  process = Some e.process;
-  register = number_in e.register;
-  act = plain_act (kind_in e.what) (cond (writes (kind_in e.what)) e.value r.1.value);
-}
+operation n t e reply = all.operation plain_calls n t e reply
 
--- the operations of the calls among events, the first of which has time s
 abbrev pub calls_from : ℕ → ℕ → List Event → List Operation
-calls_from n s [] = []
-calls_from n s (e ∷ es) =
-    cond (begins e (next_of e.process (suc s) es)) (operation n s e (reply_in (next_of e.process (suc s) es))
-    ∷ calls_from n (suc s) es) (calls_from n (suc s) es)
+calls_from n s es = all.calls_from plain_calls n s es
 
--- the calls of a history that didn't fail, by time: event i has time i + 2,
--- a missing reply the time after all events
+-- the calls of a history that didn't fail, by time
 abbrev pub calls : List Event → List Operation
-calls events = calls_from (length events + 2) 2 events
+calls events = all.calls_of plain_calls events
 
 -- each register begins with a write of null that precedes all calls
 abbrev pub initial_write : ℕ → Operation

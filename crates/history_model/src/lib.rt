@@ -2,14 +2,17 @@
 //! when a register is atomic, safe or regular.
 //!
 //! No history is checked here. This crate has the types that an answer speaks of and the small calls that
-//! read them, the definitions behind each answer, and laws that hold of every accepted history. Whoever reads
-//! `specs/` knows what each verdict and each refusal says; the crates above prove that they give just that.
+//! read them, the definitions behind each answer, and laws that hold of every accepted history. Whoever
+//! reads `specs/` knows what each verdict and each refusal says; the crates above prove that they give just
+//! that.
 //!
-//! Read the definitions in this order: `Lists`; `Events`, what a line says; `Refusals`, which histories are
-//! refused and why; `History`, the events of an accepted one; `Operations`, their times and their order;
-//! `Legal` (atomic: Herlihy and Wing, 1990; and weaker guarantees) and `Lamport` (safe and regular, 1986);
-//! `Walking`, `Naming` and `OfValue`, in whose words the calls of the crates above answer. `laws` is what
-//! these rely on.
+//! Read the definitions in this order: `Lists`; `Table`, when an event is refused, for all programs;
+//! `Events`, what a line of reads and writes says; `Refusals`, the rules of their programs; `History`, the
+//! events of an accepted one; `Acts`; `Calls`, from events to operations, for all programs; `Operations`,
+//! their times and their order; `Timed`; `Legal` (atomic: Herlihy and Wing, 1990; and weaker guarantees) and
+//! `Lamport` (safe and regular, 1986); `Walking`, `Naming` and `OfValue`, in whose words the calls of the
+//! crates above answer. `laws` is what these rely on. Read the other code in this order: `ids`, `act`,
+//! `operation`, `op`, `event`, `refusal`, `guarantee`.
 #![tactic(auto)]
 
 mod act;

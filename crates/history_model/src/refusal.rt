@@ -1,17 +1,18 @@
 //! Why a history is refused.
 ghost use Rattle.std.specs.Prelude.{◌≡◌};
 ghost use Rattle.history_model.specs.declared.refusal.BuildError.TheVariants.{Memory};
-ghost use Rattle.history_model.specs.Refusals.{reason_number, reason_other};
+ghost use Rattle.history_model.specs.Table.{reason_number, reason_other};
 
 use history_text::{LineKind, MAX_EVENTS};
 use std::alloc::AllocError;
 use thiserror::Error;
 
-/// Why a line is refused. Each reason has a number, and of several that apply to a
-/// line the one with the lowest number stands.
+/// Why a line is refused. Each reason has a number, and of several that apply to a line the one with the
+/// lowest number stands. `WrittenBefore` is only for programs whose values are distinct, `NoOk` and
+/// `BadTold` only for those that take a cas.
 #[derive(Clone, Copy, Debug, PartialEq, Eq, Error)]
 pub enum Reason {
-    /// 1 to 8: the fault of the line by itself.
+    /// 1 to 8, or 20: the fault of the line by itself.
     #[error(transparent)]
     Faulty(LineKind),
     /// 9: a call, while its process has an open call, at this line.
@@ -35,10 +36,17 @@ pub enum Reason {
     /// 19: an event of a process that crashed, at this line.
     #[error("the process crashed at line {0}")]
     AfterCrash(u32),
+    /// 21: a reply to a cas with no `ok`, or another than `true` and `false`.
+    #[error("a cas's reply has no ok, true or false")]
+    NoOk,
+    /// 22: a reply whose `old` or `found` has another form where it counts, is missing where one is needed,
+    /// or contradicts what else the reply says.
+    #[error("old or found does not fit the event")]
+    BadTold,
 }
 
 impl Reason {
-    /// The number of the refusal, 1 to 14 or 19.
+    /// The number of the refusal: 1 to 14, or 19 to 22.
     pub fn number(&self) -> u8
         ensures { result ≡ reason_number self.now }
     {
@@ -51,6 +59,8 @@ impl Reason {
             Reason::WrittenBefore(_) => 13,
             Reason::TooMany => 14,
             Reason::AfterCrash(_) => 19,
+            Reason::NoOk => 21,
+            Reason::BadTold => 22,
         }
     }
 
@@ -66,7 +76,9 @@ impl Reason {
             | Reason::NoOpenCall
             | Reason::Disagreement
             | Reason::NoValue
-            | Reason::TooMany => None,
+            | Reason::TooMany
+            | Reason::NoOk
+            | Reason::BadTold => None,
         }
     }
 }
@@ -81,7 +93,7 @@ pub struct LineRefusal {
     pub reason: Reason,
 }
 
-/// Why no arena was built.
+/// Why the events of some lines aren't taken in.
 #[derive(Clone, Copy, Debug, PartialEq, Eq, Error)]
 pub enum BuildError {
     /// The history isn't well formed.

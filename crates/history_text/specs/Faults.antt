@@ -5,7 +5,7 @@ use Rattle.history_text.specs.declared.fault.LineKind.TheVariants.{TooLong, NotJ
 use Rattle.history_text.specs.declared.fault.LineKind.TheVariants.{BadEvent, BadOp, BadRegister, BadValue}
 use Rattle.history_text.specs.declared.fault.LineKind.TheVariants.{BadFromOrTo}
 
--- the number by which a fault of a line is refused; the least that applies to a line is its own
+-- the number by which a fault of a line is refused; the lowest that applies to a line is its own
 abbrev pub fault_number : LineKind → ℕ
 fault_number TooLong = 1
 fault_number NotJson = 2

@@ -1,5 +1,5 @@
--- The one event of a line, or the least fault that applies to it; this project's profile. Which operations
--- are taken is an argument: `line_reading` is where reads and writes are, and no other.
+-- The one event of a line, or the lowest-numbered fault that applies to it; this project's profile. Which
+-- operations are taken is an argument: `line_reading` is where reads and writes are, and no other.
 use Rattle.std.specs.Prelude.{◌≡◌, ◌≢◌, ℕ, ◌<◌, ◌≤◌, ◌++◌, Bool, List, drop, length, map, codes, nat_lt}
 use Rattle.std.specs.Prelude.{slice_range, if◌then◌else◌, Option, Some, None, is_some, IfSome, true, false}
 use Rattle.std.specs.Prelude.{Result, Ok, Err}
@@ -43,7 +43,7 @@ use Rattle.history_text.specs.declared.fault.LineKind.TheVariants.{BadEvent, Bad
 use Rattle.history_text.specs.declared.fault.LineKind.TheVariants.{BadFromOrTo}
 
 -- goes on with what has its form, or stops at the fault; faults are looked for by ascending
--- number, so the one at which a reading stops is the least that applies
+-- number, so the one at which a reading stops is the lowest-numbered that applies
 abbrev pub or_fault : {A B : Type 0} → Option A → LineKind → (A → Result B LineKind) → Result B LineKind
 or_fault None fault next = Err fault
 or_fault (Some x) fault next = next x
@@ -126,7 +126,7 @@ event_of taken n d = if is_some (as_object d)
 unfoldable pub json_of : List ℕ → Option Data
 json_of bytes = if is_utf8 bytes then read bytes else None
 
--- the event of the bytes at line `n`, or the least fault that applies
+-- the event of the bytes at line `n`, or the lowest-numbered fault that applies
 abbrev pub line_form : Operations → ℕ → List ℕ → Result AnyEvent LineKind
 line_form taken n bytes =
     if nat_lt MAX_LINE (length bytes) then Err TooLong
@@ -137,7 +137,7 @@ abbrev pub at_line : ℕ → Result AnyEvent LineKind → Result AnyEvent LineFa
 at_line n (Ok event) = Ok event
 at_line n (Err fault) = Err (record { line = n; kind = fault })
 
--- what line `n` means where these operations are taken: its one event, or its least fault
+-- what line `n` means where these operations are taken: its one event, or its lowest-numbered fault
 abbrev pub event_reading : Operations → ℕ → List ℕ → Result AnyEvent LineFault
 event_reading taken n bytes = at_line n (line_form taken n bytes)
 
@@ -176,7 +176,7 @@ abbrev pub reading_of : List ℕ → Span → Result LineEvent LineFault
 reading_of input span = line_reading span.line (slice_range input span.from span.to)
 
 -- what those lines of some bytes mean that are not blank, in order, where the first line has
--- number `n`: each its event or its least fault
+-- number `n`: each its event or its lowest-numbered fault
 abbrev pub lines_from : ℕ → List ℕ → List (Result LineEvent LineFault)
 lines_from n bytes = map (λ l. line_reading l.0 l.1) (numbered_from n bytes)
 

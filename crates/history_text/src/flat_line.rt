@@ -1,5 +1,5 @@
-//! The event of a flat line, read with no tree. Flat is the common form of a line: one object of up to
-//! eight members, each of a known name and with a plain value, as `flat_members` reads them.
+//! The event of a flat line, read with no tree. Flat is the common form of a line: one object whose members
+//! have known names and plain values, as `flat_members` reads them.
 //!
 //! The contract of `read_event` says what it would say without this module: [`flat_event`] gives an event
 //! only if `line_form` gives it, which is defined over the JSON that `serde_json` reads. A line that is

@@ -1,9 +1,8 @@
 //! The members of a flat object, one after another, read from its text with no tree.
 //!
-//! An object is flat here if it has one to eleven members, in any order, each with a name that the
-//! format knows and with a plain value of that member: a number, a word, a string or null. The members
-//! `client`, `node` and `time`, which say who called and when, are passed over. Those of a cas are known only
-//! where cas are taken. Spaces may stand wherever
+//! An object is flat here if it has one to eleven members, in any order: `process`, `event`, `op`, `register`
+//! and `value`; `from`, `to` and `ok`, where cas are taken; and `client`, `node` and `time`, which are passed
+//! over. Each has a plain value of that member: a number, a word, a string or null. Spaces may stand wherever
 //! JSON allows them, except before a colon: hardly any writer puts them there, and looking for them would
 //! cost time on every line. As in `members`, the last of equal names counts.
 //!
@@ -43,7 +42,7 @@ const NOTHING: FlatMembers<'static> = FlatMembers {
     ok: None,
 };
 
-// One for each name that the format knows, and one for each that is passed over.
+// One for each of these names.
 const MOST_MEMBERS: usize = 11;
 
 /// The process, a whole number within its limit.

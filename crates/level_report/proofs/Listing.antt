@@ -1,11 +1,11 @@
 -- A walk over the events of a register lists its operations.
-use Rattle.std.proofs.Common.{◌≡◌, ℕ, zero, suc, ◌+◌, ◌<◌, ◌≤◌, ◌==◌, cond, Bool, true, false, List, [], ◌∷◌}
-use Rattle.std.proofs.Common.{◌++◌, length, Option, Some, None, refl, sym, ap, ◌∙◌, arith}
+use Rattle.std.proofs.Common.{◌≡◌, ℕ, ◌+◌, ◌<◌, ◌==◌, cond, Bool, true, false, List, [], ◌∷◌}
+use Rattle.std.proofs.Common.{◌++◌, length, Option, Some, None, refl, sym, ap, ◌∙◌}
 use Rattle.std.proofs.Common.{append_assoc, append-nil, is_some, unwrap_or, slice_get}
-use Rattle.std.proofs.lemmas.Bool.{eqb-false, eqb-true}
 use Rattle.std.proofs.lemmas.List.Elements.{filter-append}
 use Rattle.history_model.specs.Acts.{is_plain, kind_of_act, plain_act, value_of_act}
 use Rattle.history_model.specs.History.{History, IsRecorded}
+use Rattle.history_model.proofs.Initials.{one-initial}
 use Rattle.history_model.specs.Operations.{calls, initial_write, initial_writes, of_register, operation}
 use Rattle.history_model.specs.Operations.{operations, register_of, reply_of}
 use Rattle.history_model.specs.Naming.{begins_at, op_shown, IsNamed}
@@ -79,36 +79,11 @@ called-again es i e o is = rw is (shown-again (length es + 2) (called_at es i e)
 -- ---- the register's operations
 
 -- the initial write of a register among those of the registers below n
-no-initial : (r n : ℕ) → n ≤ r → of_register r (initial_writes n) ≡ []
-no-initial r zero h = refl
-no-initial r (suc n) h = go (no-initial r n (omega arith)) (n == r) refl
-  where
-    go : of_register r (initial_writes n) ≡ [] → (b : Bool) → (n == r) ≡ b
-        → cond (n == r) (initial_write n ∷ of_register r (initial_writes n)) (of_register r (initial_writes
-        n))
-        ≡ []
-    go below true q = absurd (let same = eqb-true n r q in omega (arith, h, same))
-    go below false q = rw q below
-
-one-initial : (r n : ℕ) → r < n → of_register r (initial_writes n) ≡ initial_write r ∷ []
-one-initial r zero h = absurd (omega arith)
-one-initial r (suc n) h = go (λ less. one-initial r n less) (n == r) refl
-  where
-    go : (r < n → of_register r (initial_writes n) ≡ initial_write r ∷ []) → (b : Bool) → (n == r) ≡ b
-        → cond (n == r) (initial_write n ∷ of_register r (initial_writes n)) (of_register r (initial_writes
-        n))
-        ≡ initial_write r ∷ []
-    go below true q =
-        let same = eqb-true n r q in
-        rw q (ap (λ k. initial_write k ∷ of_register r (initial_writes n)) same
-        ∙ ap (λ xs. initial_write r ∷ xs) (no-initial r n (omega (arith, same))))
-    go below false q = rw q (below (let other = eqb-false n r q in omega (arith, h, other)))
-
 pub register-of : (h : History) (r : ℕ) → r < length h.names
     → register_of h r ≡ initial_write r ∷ of_register r (calls h.events)
 register-of h r below =
     filter-append (λ (a : Operation). a.register == r) (initial_writes (length h.names)) (calls h.events)
-    ∙ ap (λ xs. xs ++ of_register r (calls h.events)) (one-initial r (length h.names) below)
+    ∙ ap (λ xs. xs ++ of_register r (calls h.events)) (one-initial (length h.names) r below)
 
 -- what is shown of the initial write
 pub initial-again : (h : History) (r : RegId) (end : ℕ) (o : Operation) (op : Op) → r.0 < length h.names

@@ -9,9 +9,10 @@
 //!
 //! Read it in this order: `settings`; `operations`, those of an arena, of one register or all; `called`, how
 //! many there are; `lines`, operations by lines; `freshness`, the age of values, and `guarantees`, the levels
-//! weaker than atomic; `order`; `register`, the line of one register, and `registers`, of all, by workers
-//! that share them; `causal`, the whole history; `totals`, the last line; `outcome`; `whole`, from source to
-//! sink; `alone`, from memory to memory; `wording`, why there is no report.
+//! weaker than atomic; `sooner`, the order of an atomic register's clusters, and `order`, of operations;
+//! `register`, the line of one register, and `registers`, of all, by workers that share them; `causal`, the
+//! whole history; `totals`, the last line; `outcome`; `whole`, from source to sink; `alone`, from memory to
+//! memory.
 #![tactic(auto)]
 
 mod alone;
@@ -29,13 +30,11 @@ mod settings;
 mod sooner;
 mod totals;
 mod whole;
-mod wording;
 
 pub use alone::check_alone;
 pub use byte_ends::{FromReader, FromWriter, IoFail, MemSink, MemSource, Sink, Source};
 pub use level_text::{LevelName, LevelsReport, RegisterLevels, Required, text};
 pub use outcome::Outcome;
-pub use reg_intake::Refusal;
+pub use reg_intake::{Refusal, message};
 pub use settings::{Asked, MAX_WORKERS, Settings};
 pub use whole::run;
-pub use wording::message;

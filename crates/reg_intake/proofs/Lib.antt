@@ -1,7 +1,7 @@
 pub mod Pulling
 pub mod Passing
-pub mod Written
+mod Written
 mod WholeRead
 mod Growing
 mod Turning
-pub mod Refusing
+mod Refusing

@@ -4,10 +4,11 @@ use Rattle.std.proofs.Common.{Some, None, refl, sym, ap, subst, arith, length-ap
 use Rattle.std.specs.Io.KnownBytes.{Consumes}
 use Rattle.history_text.specs.declared.limits.TheConstants.{MAX_INPUT}
 use Rattle.history_model.specs.declared.refusal.LineRefusal.{LineRefusal}
-use Rattle.reg_intake.proofs.Pulling.{gives-more, stops-after}
+use Rattle.reg_intake.proofs.Pulling.{gives-more, no-more, stops-after}
 use Rattle.reg_intake.specs.Arena.{IsRefusedOf}
 use Rattle.reg_intake.specs.Ends.{IsTooLong}
-use Rattle.reg_intake.specs.Pulls.{Exceeds, Gives, StopsAt, nothing}
+use Rattle.reg_intake.specs.Pulls.{Exceeds, GetsNoMore, Gives, StopsAt, nothing}
+use Rattle.reg_intake.specs.Refused.{IsRefusedBy}
 use Rattle.reg_intake.specs.Underway.{MayChange, IsStopped}
 use Rattle.reg_intake.specs.declared.pulls.Pulls.{Pulls}
 use Rattle.reg_intake.specs.declared.refusal.Refusal.{Refusal}
@@ -15,7 +16,7 @@ use Rattle.reg_intake.specs.declared.refusal.Refusal.TheVariants.{At, TooLong, I
 use Rattle.reg_intake.specs.declared.refusal.Refusal.TheVariants.{NoRoom, OutputFailed}
 
 -- if more bytes than the limit were pulled, more than the limit were left
-pub too-long : (left now : Option (List ℕ)) (bytes : List ℕ) → Consumes left now bytes
+too-long : (left now : Option (List ℕ)) (bytes : List ℕ) → Consumes left now bytes
     → MAX_INPUT < length bytes → IsTooLong left
 too-long None now bytes gave more = (bytes, tt, more)
 too-long (Some xs) None bytes gave more = absurd gave
@@ -27,14 +28,25 @@ exceeds : (left now : Option (List ℕ)) (failed failed_now : ℕ) → Exceeds l
 exceeds left now failed failed_now e =
     (too-long left now e.bytes e.gave (let over = e.over in omega arith), e.no_failure)
 
+-- what kept all the bytes from being got is the reason, unless memory ran out
+pub got-no-more : (IsLineOf : List ℕ → LineRefusal → Type 0) (left now : Option (List ℕ))
+    (failed failed_now : ℕ) (new : Pulls) (refusal : Refusal) → (refusal ≡ NoRoom → ⊥)
+    → GetsNoMore left now failed failed_now nothing new refusal
+    → IsRefusedBy IsLineOf left failed failed_now refusal
+got-no-more IsLineOf left now failed failed_now new (At r) other s = absurd s
+got-no-more IsLineOf left now failed failed_now new TooLong other s = exceeds left now failed failed_now s
+got-no-more IsLineOf left now failed failed_now new InputFailed other s = s
+got-no-more IsLineOf left now failed failed_now new NoRoom other s = absurd (other refl)
+got-no-more IsLineOf left now failed failed_now new OutputFailed other s = absurd s
+
 -- what stopped the pulls is the reason
-stops : (left now : Option (List ℕ)) (failed failed_now : ℕ) (refusal : Refusal)
-    → StopsAt left now failed failed_now nothing refusal → IsRefusedOf left failed failed_now refusal
-stops left now failed failed_now (At r) s = absurd s
-stops left now failed failed_now TooLong s = exceeds left now failed failed_now s
-stops left now failed failed_now InputFailed s = s
-stops left now failed failed_now NoRoom s = absurd s
-stops left now failed failed_now OutputFailed s = absurd s
+pub stops : (IsLineOf : List ℕ → LineRefusal → Type 0) (left now : Option (List ℕ)) (failed failed_now : ℕ)
+    (refusal : Refusal) → StopsAt left now failed failed_now nothing refusal
+    → IsRefusedBy IsLineOf left failed failed_now refusal
+stops IsLineOf left now failed failed_now refusal s =
+    got-no-more IsLineOf left now failed failed_now nothing refusal
+    (λ e. subst (StopsAt left now failed failed_now nothing) e s)
+    (no-more left now failed failed_now nothing nothing refusal s)
 
 -- a refusal of a line, or because memory ran out, may be another one
 pub may-change : (refusal : Refusal) → ((r : LineRefusal) × (refusal ≡ At r)) ⊎ (refusal ≡ NoRoom)
@@ -84,11 +96,11 @@ module _ (left mid now : Option (List ℕ)) (failed failed_mid failed_now : ℕ)
       → IsStopped left mid failed failed_mid pulled first
       → StopsAt mid now failed_mid failed_now pulled refusal → IsRefusedOf left failed failed_now refusal
   refused-in-rest (At r) refusal may_change s rest =
-      stops left now failed failed_now refusal
+      stops _ left now failed failed_now refusal
       (stops-after left mid now failed failed_mid failed_now nothing pulled s.0 s.1 refusal rest)
   refused-in-rest TooLong refusal may_change s rest = absurd may_change
   refused-in-rest InputFailed refusal may_change s rest = absurd may_change
   refused-in-rest NoRoom refusal may_change s rest =
-      stops left now failed failed_now refusal
+      stops _ left now failed failed_now refusal
       (stops-after left mid now failed failed_mid failed_now nothing pulled s.0 s.1 refusal rest)
   refused-in-rest OutputFailed refusal may_change s rest = absurd may_change

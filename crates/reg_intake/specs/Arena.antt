@@ -1,13 +1,11 @@
 -- The arena of all the bytes that a source had left, or why there is none.
-use Rattle.std.specs.Prelude.{◌≡◌, ◌<◌, ◌≤◌, ℕ, List, length, Option}
+use Rattle.std.specs.Prelude.{◌≡◌, ◌≤◌, ℕ, List, length, Option}
 use Rattle.history_text.specs.declared.limits.TheConstants.{MAX_INPUT}
 use Rattle.history_text.specs.Reading.{history_lines}
 use Rattle.history_model.specs.History.{History, history_of}
 use Rattle.history_model.specs.Refusals.{IsRefusal, IsWellFormed, events_of}
-use Rattle.reg_intake.specs.Ends.{IsAll, IsTooLong, IsWithinLimit}
+use Rattle.reg_intake.specs.Refused.{IsRefusedBy}
 use Rattle.reg_intake.specs.declared.refusal.Refusal.{Refusal}
-use Rattle.reg_intake.specs.declared.refusal.Refusal.TheVariants.{At, TooLong, InputFailed}
-use Rattle.reg_intake.specs.declared.refusal.Refusal.TheVariants.{NoRoom, OutputFailed}
 
 -- the arena of an input that is within its limit and well formed
 pub record IsArenaOf (input : List ℕ) (arena : History) : Type 0 where
@@ -17,10 +15,5 @@ pub record IsArenaOf (input : List ℕ) (arena : History) : Type 0 where
 
 -- why there is no arena of all the bytes that a source had left
 abbrev pub IsRefusedOf : Option (List ℕ) → ℕ → ℕ → Refusal → Type 0
-IsRefusedOf left failed failed_now (At r) =
-    (bytes : List ℕ) × IsAll left bytes × (length bytes ≤ MAX_INPUT) × IsRefusal (history_lines bytes) r
-    × (failed_now ≡ failed)
-IsRefusedOf left failed failed_now TooLong = IsTooLong left × (failed_now ≡ failed)
-IsRefusedOf left failed failed_now InputFailed = failed < failed_now
-IsRefusedOf left failed failed_now NoRoom = IsWithinLimit left × (failed_now ≡ failed)
-IsRefusedOf left failed failed_now OutputFailed = ⊥
+IsRefusedOf left failed failed_now refusal =
+    IsRefusedBy (λ bytes r. IsRefusal (history_lines bytes) r) left failed failed_now refusal

@@ -1,5 +1,6 @@
 pub mod Refusals
 pub mod Ends
+pub mod Refused
 pub mod Pulls
 pub mod Intake
 pub mod Underway

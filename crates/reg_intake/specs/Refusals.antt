@@ -1,6 +1,6 @@
 -- Refusals of an input, and their numbers (this project's own; docs/format.md has the table).
-use Rattle.std.specs.Prelude.{ℕ, Bool, nat_le, ◌==◌, ◌||◌, Option, Some, None}
-use Rattle.history_model.specs.Refusals.{reason_number, reason_other}
+use Rattle.std.specs.Prelude.{ℕ, Option, Some, None}
+use Rattle.history_model.specs.Table.{reason_number, reason_other}
 use Rattle.history_model.specs.declared.refusal.BuildError.{BuildError}
 use Rattle.history_model.specs.declared.refusal.BuildError.TheVariants.{Refused, Memory}
 use Rattle.reg_intake.specs.declared.refusal.Refusal.{Refusal}
@@ -18,10 +18,6 @@ number_of TooLong = 15
 number_of InputFailed = 16
 number_of NoRoom = 17
 number_of OutputFailed = 18
-
--- the refusal of this number is of the input: of a line, or of the length
-abbrev pub is_of_input : ℕ → Bool
-is_of_input number = nat_le number 15 || number == 19
 
 abbrev pub line_of : Refusal → Option ℕ
 line_of (At r) = Some r.line

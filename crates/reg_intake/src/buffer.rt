@@ -49,6 +49,15 @@ impl Buffer {
         &self.bytes[..self.count]
     }
 
+    /// The bytes as a `Vec`.
+    pub(crate) fn into_vec(self) -> Vec<u8>
+        ensures { result.items ≡ self }
+    {
+        let mut bytes = self.bytes;
+        bytes.truncate(self.count);
+        bytes
+    }
+
     /// Pulls once, and holds what came after the bytes.
     ///
     /// # Errors

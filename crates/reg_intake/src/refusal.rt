@@ -1,6 +1,6 @@
 //! Why there is no report.
 ghost use Rattle.std.specs.Prelude.{◌≡◌};
-ghost use Rattle.reg_intake.specs.Refusals.{is_of_input, number_of, line_of, other_of};
+ghost use Rattle.reg_intake.specs.Refusals.{number_of, line_of, other_of};
 
 use history_model::{BuildError, LineRefusal};
 use history_text::MAX_INPUT;
@@ -10,7 +10,7 @@ use thiserror::Error;
 /// Why there is no report. Nothing was written then, but for `OutputFailed`.
 #[derive(Clone, Copy, Debug, PartialEq, Eq, Error)]
 pub enum Refusal {
-    /// 1 to 14 or 19: the history isn't well formed. Its first faulty line is refused, for the
+    /// 1 to 14, or 19 to 22: the history isn't well formed. Its first faulty line is refused, for the
     /// lowest-numbered reason that applies there.
     #[error(transparent)]
     At(LineRefusal),
@@ -20,7 +20,7 @@ pub enum Refusal {
     /// 16: the source failed.
     #[error("input could not be read")]
     InputFailed,
-    /// 17: memory ran out.
+    /// 17: memory ran out, or a thread couldn't be started.
     #[error("no memory or no thread")]
     NoRoom,
     /// 18: the sink failed, and a beginning of the report may be out.
@@ -52,7 +52,7 @@ impl From<AllocError> for Refusal {
 }
 
 impl Refusal {
-    /// The number of the refusal, 1 to 19.
+    /// The number of the refusal, 1 to 22.
     pub fn number(&self) -> u8
         ensures { result ≡ number_of self.now }
     {
@@ -63,15 +63,6 @@ impl Refusal {
             Refusal::NoRoom => 17,
             Refusal::OutputFailed => 18,
         }
-    }
-
-    /// Whether it is the input that is refused: 1 to 15 or 19. The other refusals say that the source, memory
-    /// or the sink failed.
-    pub fn is_of_input(&self) -> bool
-        ensures { result ≡ is_of_input (number_of self.now) }
-    {
-        let number = self.number();
-        number <= 15 || number == 19
     }
 
     /// The refused line, from 1, if it is a line that is refused.

@@ -5,6 +5,9 @@
 //! never leaves the question open. A graph of the clusters is sorted: an edge joins the clusters of one
 //! operation of a session and the next that must respect it, and a chain of the writes by call stands for
 //! real time. So a decision takes n log n steps, for the places at which clusters enter the chain.
+//!
+//! Read it in this order: `decision`; `asked` and `early`; `graph`; `chain`, `sessions` and `initial`, its
+//! edges; `steps`; `deciding`; `listing`.
 #![tactic(auto)]
 
 mod asked;

@@ -24,7 +24,7 @@ numbers_of done = map (λ d. d.0) done
 abbrev pub ArePieces : History → List Task → List (ℕ × Piece) → Type 0
 ArePieces h tasks done = (i : ℕ) (d : ℕ × Piece) → slice_get done i ≡ Some d → IsPieceAt h tasks d.0 d.1
 
--- the piece of this number is done besides
+-- one more piece is done, that of this number
 abbrev pub AddsPiece : History → List Task → ℕ → List (ℕ × Piece) → List (ℕ × Piece) → Type 0
 AddsPiece h tasks number old new = (p : Piece) × IsPieceAt h tasks number p × (new ≡ old ++ (number, p) ∷ [])
 
@@ -70,8 +70,8 @@ pub record AddsRegister (h : History) (number : ℕ) (seat with_it : SeatValue)
 -- ---- a worker
 
 -- What a worker that was given a seat hands back: the seat, of the same weight. It drew what is done, in
--- its order, and, where memory was refused, at most one number more; where it wasn't, no number was
--- left. It flagged what the plan asks for.
+-- its order, and, if memory ran out, at most one number more; if it didn't, no number was left. It
+-- flagged what the plan asks for.
 pub record HasWorked (h : History) (plan : PlanShown) (seat : SeatValue) (w : Worked) : Type 0 where
   pub board : w.seat.board ≡ seat.board
   pub weight : w.seat.view.weight ≡ seat.view.weight

@@ -1,21 +1,16 @@
 -- The answer to an input within its limit is the answer to its lines.
 use Rattle.std.proofs.Common.{◌≡◌, ◌≤◌, ℕ, List, length, Bool, true, false, nat_lt}
-use Rattle.std.proofs.Common.{Ok, Err, inl, inr, refl, sym, subst, arith}
+use Rattle.std.proofs.Common.{Ok, Err, refl, subst, arith}
 use Rattle.std.specs.Prelude.{MatchBool, Result}
-use Rattle.std.specs.Result.{IsErrAnd, IfErr}
 use Rattle.std.proofs.lemmas.Bool.{ltb-true}
 use Rattle.history_text.specs.declared.limits.TheConstants.{MAX_INPUT}
 use Rattle.history_text.specs.Reading.{history_lines}
 use Rattle.history_model.specs.History.{History}
-use Rattle.history_model.specs.Refusals.{Line, IsBuildError}
-use Rattle.history_model.specs.declared.refusal.BuildError.{BuildError}
-use Rattle.history_model.specs.declared.refusal.BuildError.TheVariants.{Refused, Memory}
 use Rattle.reg_intake.specs.Arena.{IsArenaOf}
-use Rattle.reg_report.specs.Answer.{IsAnswer, IsAnswerToLines, IsRefused}
+use Rattle.reg_report.specs.Answer.{IsAnswer, IsAnswerToLines}
 use Rattle.reg_report.specs.First.{IsReportBy}
-use Rattle.reg_intake.specs.Refusals.{of_build}
 use Rattle.reg_intake.specs.declared.refusal.Refusal.{Refusal}
-use Rattle.reg_intake.specs.declared.refusal.Refusal.TheVariants.{NoRoom, TooLong}
+use Rattle.reg_intake.specs.declared.refusal.Refusal.TheVariants.{TooLong}
 use Rattle.reg_text.specs.declared.report.Report.{Report}
 
 pub answer-within : (first : Bool) (input : List ℕ) (answer : Result Report Refusal)

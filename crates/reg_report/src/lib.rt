@@ -6,7 +6,8 @@
 //! without threads; [`merge`] lists the operations of all registers in one legal order. The values and
 //! [`text`], which gives their bytes, are handed on from `reg_text`. [`plan`] and [`work`], handed on from
 //! `reg_pieces`, are the pieces of work and one worker; how many workers there are, and how they take turns,
-//! changes no report. Sources and sinks are handed on from `byte_ends`, and [`Refusal`] from `reg_intake`.
+//! changes no report. Sources and sinks are handed on from `byte_ends`, [`Refusal`] and [`message`] from
+//! `reg_intake`.
 //! [`laws`] says why the whole history is atomic exactly if each of its registers is, and that a history has
 //! one report.
 //!
@@ -14,7 +15,7 @@
 //! `merged_lines`, the order of all registers; `levels` and `tally`; `findings`, what is found of each
 //! register, and `lone_thread`, the same without threads; `register`, the line of one; `history`, the values
 //! of a report; `outcome` and `findings_text`, its bytes; `first`, the first register that isn't atomic;
-//! `report_text`; `slice` and `report_values`; `alone`; `whole`; `wording`.
+//! `report_text`; `slice` and `report_values`; `alone`; `whole`.
 #![tactic(auto)]
 
 mod alone;
@@ -38,13 +39,12 @@ mod report_values;
 mod slice;
 mod tally;
 mod whole;
-mod wording;
 
 pub use alone::check_alone;
 pub use byte_ends::{FromReader, FromWriter, IoFail, MemSink, MemSource, Sink, Source};
 pub use merged_order::merge;
 pub use outcome::Outcome;
-pub use reg_intake::Refusal;
+pub use reg_intake::{Refusal, message};
 pub use reg_pieces::{
     BadReads, Gate, Judgement, MAX_CUT, MAX_WORKERS, OpenGate, Order, Piece, Plan, Settings,
     Worked, plan, work,
@@ -52,4 +52,3 @@ pub use reg_pieces::{
 pub use reg_text::{FaultLines, Lines, RegReport, Registers, Report, Verdict, text};
 pub use report_values::check;
 pub use whole::run;
-pub use wording::message;

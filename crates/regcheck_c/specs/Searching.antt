@@ -1,9 +1,9 @@
 -- What the calls for `regsearch` answer (this project's own interface; docs/embedding.md).
 use Rattle.std.specs.Prelude.{◌≡◌, ◌⊎◌, ℕ, List, min, ◌==◌, if◌then◌else◌, Ok, Err}
-use Rattle.cas_history.specs.Refusals.{events_of}
-use Rattle.search_intake.specs.Input.{history_lines}
-use Rattle.search_intake.specs.Refusals.{line_of, number_of, other_of}
-use Rattle.search_intake.specs.declared.refusal.Refusal.{Refusal}
+use Rattle.history_model.specs.Table.{events_of}
+use Rattle.cas_history.specs.Input.{history_lines}
+use Rattle.reg_intake.specs.Refusals.{line_of, number_of, other_of}
+use Rattle.reg_intake.specs.declared.refusal.Refusal.{Refusal}
 use Rattle.search_text.specs.Text.{report_text}
 use Rattle.search_text.specs.declared.report.Outcome.{Outcome}
 use Rattle.search_text.specs.declared.report.Outcome.TheVariants.{Yes, No, Unknown}

@@ -29,7 +29,7 @@ pub const UNKNOWN: u32 = 6;
 pub struct Answer {
     /// One of the statuses above.
     pub status: u32,
-    /// The number of the refusal, 1 to 15 or 19 to 21, or 17 if memory ran out; 0 if there is a report.
+    /// The number of the refusal, 1 to 15 or 19 to 22, or 17 if memory ran out; 0 if there is a report.
     pub number: u32,
     /// The refused line, from 1; 0 if no line is refused.
     pub line: u32,

@@ -2,15 +2,15 @@
 use Rattle.std.proofs.Common.{◌≡◌, ◌≤◌, ℕ, List, length, Result, Ok, Err, inl, inr, refl, subst, sym}
 use Rattle.std.specs.Prelude.{MatchBool}
 use Rattle.history_text.specs.declared.limits.TheConstants.{MAX_INPUT}
-use Rattle.cas_history.specs.Refusals.{events_of}
+use Rattle.history_model.specs.Table.{events_of}
 use Rattle.cas_history.specs.declared.history.History.{History}
-use Rattle.cas_history.specs.declared.refusal.BuildError.{BuildError}
-use Rattle.cas_history.specs.declared.refusal.BuildError.TheVariants.{Refused, Memory}
-use Rattle.search_intake.specs.Input.{IsHistoryOfInput, history_lines}
-use Rattle.search_intake.specs.Refusals.{of_build}
-use Rattle.search_intake.specs.Taken.{IsNoHistory}
-use Rattle.search_intake.specs.declared.refusal.Refusal.{Refusal}
-use Rattle.search_intake.specs.declared.refusal.Refusal.TheVariants.{At, TooLong}
+use Rattle.history_model.specs.declared.refusal.BuildError.{BuildError}
+use Rattle.history_model.specs.declared.refusal.BuildError.TheVariants.{Refused, Memory}
+use Rattle.cas_history.specs.Input.{IsHistoryOfInput, history_lines}
+use Rattle.reg_intake.specs.Refusals.{of_build}
+use Rattle.cas_history.specs.Taken.{IsNoHistory}
+use Rattle.reg_intake.specs.declared.refusal.Refusal.{Refusal}
+use Rattle.reg_intake.specs.declared.refusal.Refusal.TheVariants.{At, TooLong}
 use Rattle.search_text.specs.declared.report.Report.{Report}
 use Rattle.search_report.specs.Answer.{IsAnswer, IsAnswerToLines, IsRefused}
 use Rattle.search_report.specs.Meaning.{IsReport}

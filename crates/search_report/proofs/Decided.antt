@@ -11,7 +11,7 @@ use Rattle.history_model.specs.Operations.{AreTimed, initial_write, of_register}
 use Rattle.history_model.proofs.Locality.{each_decides}
 use Rattle.cas_history.specs.History.{IsHistoryOf, calls_of, operations, register_names}
 use Rattle.cas_history.specs.declared.history.History.{History}
-use Rattle.cas_history.proofs.Timed.{calls-timed}
+use Rattle.cas_history.proofs.Timed.{any-calls-timed}
 use Rattle.cas_history.proofs.Initials.{named as of-named, none as of-none}
 use Rattle.search_text.specs.declared.report.Outcome.{Outcome}
 use Rattle.search_text.specs.declared.report.Outcome.TheVariants as outcome
@@ -121,7 +121,7 @@ module _ (events : List AnyEvent) where
   each_timed : (r : ℕ) → AreTimed (of_register r (operations events))
   each_timed r = elim (is_named r) [
     | inl l ↦ subst AreTimed (sym (of-named events r l))
-        (timed_with_initial r (calls_of events r) (calls-timed events r))
+        (timed_with_initial r (calls_of events r) (any-calls-timed events r))
     | inr n ↦ subst AreTimed (sym (of-none events r n)) (record {
       life = λ a i. absurd i;
       apart = λ a b i _ _. i;
@@ -160,7 +160,7 @@ module _ (events : List AnyEvent) where
           writes = line.writes;
           atomicity =
               subst (λ xs. IsAtomicity xs r (calls_of events r) report.atomicity) is.lines
-              (line.atomicity r (calls-timed events r));
+              (line.atomicity r (any-calls-timed events r));
         }
 
     tells : (r : ℕ) (a : Atomicity) → IsAtomicity (event_lines events) r (calls_of events r) a

@@ -12,7 +12,7 @@ use Rattle.history_model.specs.Lists.{In}
 use Rattle.history_model.specs.Operations.{AreTimed, initial_write, reply_of}
 use Rattle.history_model.proofs.Placed.{within_life}
 use Rattle.history_model.specs.Placed.{PlacedOperation, placed}
-use Rattle.cas_history.specs.Timed.{AreTimedCalls}
+use Rattle.history_model.specs.Timed.{AreTimedCalls}
 use Rattle.cas_search.specs.Checked.{IsCheckedOrder}
 use Rattle.cas_search.specs.Timeline.{AreCalls, AreTimes, operations_at}
 use Rattle.cas_search.specs.Unwritten.{IsFirstUnwritten}

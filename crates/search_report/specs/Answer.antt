@@ -1,11 +1,12 @@
 -- The answer to an input.
 use Rattle.std.specs.Prelude.{◌≡◌, ◌⊎◌, ℕ, List, length, nat_lt, MatchBool, Result, Ok, Err}
 use Rattle.history_text.specs.declared.limits.TheConstants.{MAX_INPUT}
-use Rattle.cas_history.specs.Refusals.{Line, IsRefusal, IsWellFormed, events_of}
-use Rattle.search_intake.specs.Input.{history_lines}
-use Rattle.search_intake.specs.declared.refusal.Refusal.{Refusal}
-use Rattle.search_intake.specs.declared.refusal.Refusal.TheVariants.{At, TooLong, InputFailed}
-use Rattle.search_intake.specs.declared.refusal.Refusal.TheVariants.{NoRoom, OutputFailed}
+use Rattle.history_model.specs.Table.{events_of}
+use Rattle.cas_history.specs.Refusals.{Line, IsRefusal, IsWellFormed}
+use Rattle.cas_history.specs.Input.{history_lines}
+use Rattle.reg_intake.specs.declared.refusal.Refusal.{Refusal}
+use Rattle.reg_intake.specs.declared.refusal.Refusal.TheVariants.{At, TooLong, InputFailed}
+use Rattle.reg_intake.specs.declared.refusal.Refusal.TheVariants.{NoRoom, OutputFailed}
 use Rattle.search_text.specs.Text.{report_text}
 use Rattle.search_text.specs.declared.report.Outcome.{Outcome}
 use Rattle.search_text.specs.declared.report.Report.{Report}

@@ -6,7 +6,7 @@ use Rattle.history_text.specs.declared.event.OpWord.{OpWord}
 use Rattle.history_model.specs.declared.operation.Operation.{Operation}
 use Rattle.history_model.specs.Operations.{reply_of}
 use Rattle.cas_search.specs.Timeline.{operations_at}
-use Rattle.cas_history.specs.Timed.{AreTimedCalls}
+use Rattle.history_model.specs.Timed.{AreTimedCalls}
 use Rattle.cas_history.specs.declared.history.History.{History}
 use Rattle.search_report.specs.Meaning.{is_cas, is_open_at, is_pending, is_read}
 use Rattle.search_report.specs.Meaning.{is_write, line_at, lines_of, IsAtomicity}

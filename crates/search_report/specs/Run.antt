@@ -1,12 +1,12 @@
 -- What a run of the whole does.
 use Rattle.std.specs.Prelude.{ℕ, List, Err, Option}
 use Rattle.std.specs.Io.KnownBytes.{Appends}
-use Rattle.cas_history.specs.Refusals.{events_of}
+use Rattle.history_model.specs.Table.{events_of}
 use Rattle.reg_intake.specs.Ends.{IsAll}
-use Rattle.search_intake.specs.Input.{history_lines}
-use Rattle.search_intake.specs.declared.refusal.Refusal.{Refusal}
-use Rattle.search_intake.specs.declared.refusal.Refusal.TheVariants.{At, TooLong, InputFailed}
-use Rattle.search_intake.specs.declared.refusal.Refusal.TheVariants.{NoRoom, OutputFailed}
+use Rattle.cas_history.specs.Input.{history_lines}
+use Rattle.reg_intake.specs.declared.refusal.Refusal.{Refusal}
+use Rattle.reg_intake.specs.declared.refusal.Refusal.TheVariants.{At, TooLong, InputFailed}
+use Rattle.reg_intake.specs.declared.refusal.Refusal.TheVariants.{NoRoom, OutputFailed}
 use Rattle.search_report.specs.Answer.{IsAnswer, IsAnswerText}
 use Rattle.byte_ends.specs.Ends.{AppendsBeginning}
 use Rattle.search_report.specs.Meaning.{IsWholeOutcome}

@@ -1,15 +1,16 @@
 //! From the bytes of a history to its report, by the calling thread alone.
 ghost use Rattle.std.specs.Prelude.{◌≡◌, ◌<◌, length, Ok, Err, IfOk, IfErr};
 ghost use Rattle.history_text.specs.declared.limits.TheConstants.{MAX_INPUT};
-ghost use Rattle.cas_history.specs.Refusals.{events_of};
-ghost use Rattle.search_intake.specs.Input.{history_lines};
+ghost use Rattle.history_model.specs.Table.{events_of};
+ghost use Rattle.cas_history.specs.Input.{history_lines};
 ghost use Rattle.search_report.specs.Answer.{IsAnswer, IsRefused};
 ghost use Rattle.search_report.specs.Meaning.{IsWholeOutcome};
 
 use crate::history::report_alone;
+use cas_history::history_in;
 use cas_search::Bounds;
 use history_text::MAX_INPUT;
-use search_intake::{Refusal, history_in};
+use reg_intake::Refusal;
 use search_text::Report;
 use std::alloc::Global;
 

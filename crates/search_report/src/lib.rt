@@ -14,8 +14,7 @@
 //!
 //! Read it in this order: `settings`; `lines`, `counts` and `register`, what is found of one register;
 //! `rounds`, what is found of all, by workers that share them or by one thread; `registers`, the lines
-//! of all; `history`, the report; `whole`, from source to sink; `alone`, from bytes to the report;
-//! `wording`, why there is no report.
+//! of all; `history`, the report; `whole`, from source to sink; `alone`, from bytes to the report.
 #![tactic(auto)]
 
 mod alone;
@@ -27,12 +26,10 @@ mod registers;
 mod rounds;
 mod settings;
 mod whole;
-mod wording;
 
 pub use alone::check_alone;
 pub use byte_ends::{FromReader, FromWriter, IoFail, MemSink, MemSource, Sink, Source};
-pub use search_intake::Refusal;
+pub use reg_intake::{Refusal, message};
 pub use search_text::{Atomicity, Fault, Outcome, RegisterReport, Report, text};
 pub use settings::{MAX_WORKERS, Settings};
 pub use whole::run;
-pub use wording::message;

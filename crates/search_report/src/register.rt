@@ -1,6 +1,6 @@
 //! What is found of one register.
 ghost use Rattle.std.specs.Prelude.{◌≡◌, ℕ, None, IfOk};
-ghost use Rattle.cas_history.specs.Timed.{AreTimedCalls};
+ghost use Rattle.history_model.specs.Timed.{AreTimedCalls};
 ghost use Rattle.search_report.specs.Meaning.{IsAtomicity, IsFaultShown, is_unknown as is_unknown_of};
 ghost use Rattle.search_report.specs.Registers.{AreLinesBefore, AreOpenLines, IsFinding, IsReplyLine};
 ghost use Rattle.cas_search.specs.Unwritten.{IsFirstUnwritten};

@@ -7,8 +7,8 @@
 //! is given up when nothing later in the order needs it.
 //!
 //! Operations are named by their places in the list of all operations of a history. Read it in this order:
-//! `table`, what the table is; `numbers`, `previous` and `sources`, its parts; `build`, which puts these
-//! together; `writes`; `clocks`.
+//! `table`, what the table is; `numbers`, `previous` and `sources`, its parts, with `values` for the last;
+//! `build`, which puts these together; `writes`; `clocks`.
 #![tactic(auto)]
 
 mod build;

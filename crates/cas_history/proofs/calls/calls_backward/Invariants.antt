@@ -1,7 +1,8 @@
 use Rattle.std.proofs.Common.{◌≡◌, ℕ, ◌+◌, drop, length, reverse}
 use Rattle.std.specs.Ordering.{nat_cmp}
 use Rattle.std.specs.BTreeMap.{get}
-use Rattle.cas_history.specs.History.{calls_from, next_of}
+use Rattle.history_model.specs.Calls.{calls_from, next_of}
+use Rattle.cas_history.specs.History.{any_calls}
 use Rattle.cas_history.specs.Kept.{event_at}
 use Rattle.cas_history.proofs.calls.calls_backward.Given as goal
 
@@ -9,7 +10,8 @@ use Rattle.cas_history.proofs.calls.calls_backward.Given as goal
 abbrev pub invariant-loop-place : goal.invariant-loop-place
 invariant-loop-place l = record {
   calls : reverse l.calls.items
-      ≡ calls_from (length l.events + 2) l.naming (l.place + 2) (drop l.place l.events);
+      ≡ calls_from (any_calls l.naming) (length l.events + 2) (l.place + 2) (drop l.place l.events);
   next : (p : ℕ)
-      → next_of p (l.place + 2) (drop l.place l.events) ≡ event_at l.events (get nat_cmp l.next_places p);
+      → next_of (any_calls l.naming) p (l.place + 2) (drop l.place l.events)
+      ≡ event_at l.events (get nat_cmp l.next_places p);
 }

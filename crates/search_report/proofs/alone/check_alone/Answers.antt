@@ -1,7 +1,7 @@
 use Rattle.std.proofs.Common.{arith, inl, refl}
 use Rattle.reg_intake.proofs.Passing.{passed-on}
-use Rattle.search_intake.specs.Refusals.{of_build}
-use Rattle.search_intake.specs.declared.refusal.Refusal.TheVariants.{NoRoom}
+use Rattle.reg_intake.specs.Refusals.{of_build}
+use Rattle.reg_intake.specs.declared.refusal.Refusal.TheVariants.{NoRoom}
 use Rattle.search_report.specs.Answer.{IsRefused}
 use Rattle.search_report.proofs.Answering.{answer-to, refused-within}
 use Rattle.search_report.proofs.alone.check_alone.Goals as goal

@@ -14,7 +14,7 @@ invariant_of-self-in-Ok c =
     let new = λ (p : ℕ). get nat_cmp c.insert.new.self p in
     let place : c.len-place.result ≡ length events =
     omega (arith, c.len-place.ensures, c.self.inside.events.ok) in
-    let below = room c.len-place.result _ event (sym c.event_reason.ensures ∙ c.in_default.is) in
+    let below = room c.len-place.result _ event (sym c.event_refusal.ensures ∙ c.in_default.is) in
     let pushed =
     c.push.ensures.items
     ∙ ap (λ b. cond b (events ++ event ∷ []) events) (c.is_err.ensures.negation

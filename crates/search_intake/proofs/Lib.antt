@@ -1,3 +1,0 @@
-pub mod Pulling
-pub mod Taking
-pub mod Walking

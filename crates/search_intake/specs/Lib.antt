@@ -1,4 +1,0 @@
-pub mod Refusals
-pub mod Input
-pub mod Pulled
-pub mod Taken
