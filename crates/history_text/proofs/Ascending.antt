@@ -1,5 +1,5 @@
 -- The lines of an input are read with ascending numbers, from 1 on.
-use Rattle.std.proofs.Common.{◌≡◌, ℕ, ◌+◌, ◌<◌, ◌≤◌, List, [], ◌∷◌, map, Bool, true, false, cond}
+use Rattle.std.proofs.Common.{ℕ, ◌+◌, ◌<◌, ◌≤◌, List, [], ◌∷◌, map, Bool, true, false, cond}
 use Rattle.std.proofs.Common.{Result, arith}
 use Rattle.std.specs.Prelude.{not}
 use Rattle.std.specs.List.{All, AllPairs}

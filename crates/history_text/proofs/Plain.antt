@@ -18,8 +18,7 @@ use Rattle.history_text.specs.declared.event.OpWord.TheVariants as op
 use Rattle.history_text.specs.declared.event.EventWord.{EventWord}
 use Rattle.history_text.specs.declared.event.EventWord.TheVariants as word
 use Rattle.history_text.specs.declared.event.ReplyParts.{ReplyParts}
-use Rattle.history_text.specs.declared.event.Kind.{Kind}
-use Rattle.history_text.specs.declared.event.Kind.TheVariants.{CallRead, CallWrite, Reply, Fail, Crash}
+use Rattle.history_text.specs.declared.event.Kind.TheVariants.{CallRead, CallWrite, Reply, Fail}
 use Rattle.history_text.specs.declared.event.AnyKind.{AnyKind}
 use Rattle.history_text.specs.declared.event.AnyKind.TheVariants.{Plain, CallOther, Telling}
 use Rattle.history_text.specs.declared.event.AnyEvent.{AnyEvent}

@@ -2,15 +2,15 @@
 //!
 //! Each function gives what it read and the text after it, both as slices of the line, so nothing
 //! is copied. `None` says only that the piece doesn't stand there in the form that is read here.
-ghost use Rattle.std.specs.Prelude.{◌≡◌, ◌<◌, ◌^◌, ◌++◌, ◌∷◌, [], MatchOption};
+ghost use Rattle.std.specs.Prelude.{◌≡◌, ◌<◌, ◌≤◌, ◌^◌, ◌+◌, ◌++◌, ◌∷◌, [], length, MatchOption};
 ghost use Rattle.std.specs.Prelude.{IfSome, decimal, ⊤, FitsSigned};
 ghost use Rattle.std.specs.Bool.{MatchBool};
 ghost use Rattle.std.specs.Fmt.{signed_decimal};
-ghost use Rattle.std.specs.Int.{w64};
+ghost use Rattle.std.specs.Int.{w32, w64, from_le_bytes};
 ghost use Rattle.std.specs.Str.{IsUtf8};
 ghost use lib.Signed.{mag};
 ghost use Rattle.history_text.specs.Lines.{is_space as is_space_byte};
-ghost use Rattle.history_text.specs.Flat.{Spaced, IsPlain, IsPlainByte};
+ghost use Rattle.history_text.specs.Flat.{Spaced, IsPlain, IsPlainByte, four_from};
 
 // A number from here on takes no further digit: it might pass the greatest `i64`.
 const FULL: u64 = 922_337_203_685_477_580;
@@ -24,7 +24,16 @@ pub(crate) fn next_byte(text: &[u8]) -> Option<(u8, &[u8])>
     Some((*byte, rest))
 }
 
-/// The text after `front`, if it begins with that.
+/// Four bytes as one number.
+#[inline(always)]
+fn four(text: &[u8], at: usize) -> u32
+    requires { at + 4 ≤ length text.now }
+    ensures { result ≡ from_le_bytes w32 (four_from at text.now) }
+{
+    u32::from_le_bytes([text[at], text[at + 1], text[at + 2], text[at + 3]])
+}
+
+/// The text after `front`, if it begins with that. Four bytes are compared at once.
 #[inline(always)]
 pub(crate) fn after<'a>(text: &'a [u8], front: &[u8]) -> Option<&'a [u8]>
     ensures { IfSome result (λ rest. text.now ≡ front.now ++ rest.now) }
@@ -32,8 +41,14 @@ pub(crate) fn after<'a>(text: &'a [u8], front: &[u8]) -> Option<&'a [u8]>
     if text.len() < front.len() {
         return None;
     }
-    for i in 0..front.len() {
-        if text[i] != front[i] {
+    let fours = front.len() / 4;
+    for i in 0..fours {
+        if four(text, 4 * i) != four(front, 4 * i) {
+            return None;
+        }
+    }
+    for place in 4 * fours..front.len() {
+        if text[place] != front[place] {
             return None;
         }
     }

@@ -2,7 +2,7 @@
 use Rattle.std.proofs.Common.{◌≡◌, true, Option, Some, None, Ok, refl, ap, ◌∙◌, subst, option_map}
 use Rattle.std.proofs.Common.{arith, le-leb}
 use Rattle.std.proofs.Common.{List, ℕ, length}
-use Rattle.std.specs.Prelude.{IfSome, nat_lt, nat_le, ⊤}
+use Rattle.std.specs.Prelude.{IfSome, nat_lt, ⊤}
 use Rattle.std.specs.Bool.{MatchBool}
 use Rattle.std.proofs.lemmas.Bool.Decides.{nat_tests}
 use Rattle.std.proofs.lemmas.Result.{IfOk-weaker}
