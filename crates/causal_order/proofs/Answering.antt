@@ -6,14 +6,14 @@ use Rattle.std.specs.Global.{Global}
 use Rattle.std.proofs.Math.Nat.{add-mul}
 use Rattle.std.proofs.lemmas.Option.{slice_get-get_or, slice_get_within}
 use Rattle.history_model.specs.declared.operation.Operation.{Operation}
-use Rattle.order_graph.specs.Graph.{AreAmong}
-use Rattle.order_graph.specs.declared.edge.Edge.{Edge}
-use Rattle.order_graph.proofs.Places.{place-inside}
-use Rattle.causal_laws.specs.Fault.{IsCycle, Step}
-use Rattle.causal_laws.specs.Fault.CausalFault.{cycle}
-use Rattle.causal_laws.specs.Fault.Reason.{hidden, initial}
-use Rattle.session_clocks.specs.Sessions.{HasSource, IsAt, IsSessionTable}
-use Rattle.session_clocks.specs.declared.table.SessionTable.{SessionTable}
+use Rattle.reg_levels.specs.OrderGraph.Graph.{AreAmong}
+use Rattle.reg_levels.specs.declared.order_graph.edge.Edge.{Edge}
+use Rattle.reg_levels.proofs.OrderGraphLemmas.Places.{place-inside}
+use Rattle.level_laws.specs.CausalFault.{IsCausalCycle, Step}
+use Rattle.level_laws.specs.CausalFault.CausalFault.{cycle}
+use Rattle.level_laws.specs.CausalFault.Reason.{hidden, initial}
+use Rattle.causal_order.specs.SessionClocks.Sessions.{HasSource, IsAt, IsSessionTable}
+use Rattle.causal_order.specs.declared.session_clocks.table.SessionTable.{SessionTable}
 use Rattle.causal_order.specs.CausalGraph.{IsCausalGraph, IsFor, IsTableOf}
 use Rattle.causal_order.specs.Covering.{AreSettled, IsStale}
 use Rattle.causal_order.specs.Decisions.{IsBeyond, IsCycleOf, IsDecision}
@@ -78,7 +78,7 @@ pub stale-cycle : (ops : List Operation) (table : SessionTable) (p q source : �
           knew;
     } ∷ []
     → shown ≡ one ++ record { from = source; to = p; why = Initial } ∷ []
-    → (steps : List Step) × IsCycleOf ops shown steps × IsCycle ops steps
+    → (steps : List Step) × IsCycleOf ops shown steps × IsCausalCycle ops steps
 stale-cycle ops table p q source knew none one shown t h has found e f g =
     let to : Some (Some h.place) ≡ Some (Some source) = sym h.is_source ∙ has in
     let same : h.place ≡ source = cc to in
@@ -135,7 +135,7 @@ all-settled ops table edges order all h p l =
 
 pub broken-decision : (ops : List Operation) (shown : Vec CausalStep Global) (decision : Decision)
     → decision ≡ Broken (Cycle shown) → (steps : List Step) × IsCycleOf ops shown.items steps
-    × IsCycle ops steps
+    × IsCausalCycle ops steps
     → IsDecision ops decision
 broken-decision ops shown decision e (steps, of_steps, is) =
     subst (IsDecision ops) (sym e) (cycle steps, of_steps, is)

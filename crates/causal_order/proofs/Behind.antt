@@ -2,14 +2,15 @@
 use Rattle.std.proofs.Common.{ℕ, List, Some, arith}
 use Rattle.std.proofs.lemmas.Option.{slice_get_within}
 use Rattle.history_model.specs.declared.operation.Operation.{Operation}
-use Rattle.order_graph.proofs.Places.{place-inside}
-use Rattle.causal_laws.specs.Causal.{IsSource}
-use Rattle.causal_laws.specs.Fault.{IsEarlierCall}
-use Rattle.session_clocks.specs.Sessions.{HasPrevious, HasSource, IsAt, IsCalledInOrder, IsSessionTable}
-use Rattle.session_clocks.specs.declared.table.SessionTable.{SessionTable}
+use Rattle.reg_levels.proofs.OrderGraphLemmas.Places.{place-inside}
+use Rattle.level_laws.specs.Causal.{IsSource}
+use Rattle.level_laws.specs.CausalFault.{IsEarlierCall}
+use Rattle.causal_order.specs.SessionClocks.Sessions.{HasPrevious, HasSource, IsAt, IsCalledInOrder}
+use Rattle.causal_order.specs.SessionClocks.Sessions.{IsSessionTable}
+use Rattle.causal_order.specs.declared.session_clocks.table.SessionTable.{SessionTable}
 use Rattle.causal_order.specs.CausalGraph.{IsBehind}
 use Rattle.causal_order.specs.declared.graph.EdgeReason.TheVariants.{Session, Source}
-use Rattle.session_clocks.proofs.Ordered.{calls_ascend}
+use Rattle.causal_order.proofs.SessionClockLemmas.Ordered.{calls_ascend}
 
 -- two operations by their places
 pub record AreBoth (ops : List Operation) (p q : ℕ) (R : Operation → Operation → Type 0) : Type 0 where

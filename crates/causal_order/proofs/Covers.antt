@@ -4,10 +4,10 @@ use Rattle.std.proofs.Common.{refl, sym, ap, ◌∙◌, subst, arith, true, fals
 use Rattle.std.proofs.lemmas.Bool.{cases_order}
 use Rattle.history_model.specs.Operations.{IsWrite, is_write}
 use Rattle.history_model.specs.declared.operation.Operation.{Operation}
-use Rattle.order_graph.specs.Graph.{HasEdge}
-use Rattle.order_graph.specs.declared.edge.Edge.{Edge}
-use Rattle.session_clocks.specs.WriteIndex.{IsWriteBy}
-use Rattle.session_clocks.specs.declared.table.SessionTable.{SessionTable}
+use Rattle.reg_levels.specs.OrderGraph.Graph.{HasEdge}
+use Rattle.reg_levels.specs.declared.order_graph.edge.Edge.{Edge}
+use Rattle.causal_order.specs.SessionClocks.WriteIndex.{IsWriteBy}
+use Rattle.causal_order.specs.declared.session_clocks.table.SessionTable.{SessionTable}
 use Rattle.causal_order.specs.CausalGraph.{IsBehind, Keeps}
 use Rattle.causal_order.specs.Covering.{AreReached, IsAnyKnown, IsNewest, IsSourcedRead}
 use Rattle.causal_order.specs.declared.graph.EdgeReason.TheVariants.{Known}

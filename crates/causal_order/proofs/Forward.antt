@@ -7,13 +7,13 @@ use Rattle.std.proofs.lemmas.Bool.{cases_order}
 use Rattle.std.proofs.lemmas.Option.{slice_get_within}
 use Rattle.history_model.specs.Lists.{In}
 use Rattle.history_model.specs.declared.operation.Operation.{Operation}
-use Rattle.order_graph.proofs.Places.{place-inside}
-use Rattle.causal_laws.specs.Causal.{IsWay, IsWhole, Knows, Learns}
-use Rattle.session_clocks.specs.Clocks.{Asks, IsLearningOrder}
-use Rattle.session_clocks.specs.Sessions.{IsAt, IsCalledInOrder, IsPrevious, IsSessionTable}
-use Rattle.session_clocks.specs.Sessions.{IsSourceAt}
-use Rattle.session_clocks.specs.declared.table.SessionTable.{SessionTable}
-use Rattle.session_clocks.proofs.Ordered.{at-once, places_ascend}
+use Rattle.reg_levels.proofs.OrderGraphLemmas.Places.{place-inside}
+use Rattle.level_laws.specs.Causal.{IsWay, IsWhole, Knows, Learns}
+use Rattle.causal_order.specs.SessionClocks.Clocks.{Asks, IsLearningOrder}
+use Rattle.causal_order.specs.SessionClocks.Sessions.{IsAt, IsCalledInOrder, IsPrevious, IsSessionTable}
+use Rattle.causal_order.specs.SessionClocks.Sessions.{IsSourceAt}
+use Rattle.causal_order.specs.declared.session_clocks.table.SessionTable.{SessionTable}
+use Rattle.causal_order.proofs.SessionClockLemmas.Ordered.{at-once, places_ascend}
 use Rattle.causal_order.proofs.Places.{In-at, at-In, initial-write}
 use Rattle.causal_order.proofs.Places.{source-one}
 

@@ -3,10 +3,10 @@ use Rattle.std.proofs.Common.{◌≡◌, ℕ, List, [], length, slice_get, Some,
 use Rattle.std.proofs.Common.{subst, ap, ◌∙◌, ◌+◌, Option, arith}
 use Rattle.std.proofs.lemmas.Bool.{cases_order}
 use Rattle.history_model.specs.declared.operation.Operation.{Operation}
-use Rattle.order_graph.specs.Graph.{HasEdge}
-use Rattle.order_graph.specs.declared.edge.Edge.{Edge}
-use Rattle.session_clocks.specs.Clocks.{Asks}
-use Rattle.session_clocks.specs.declared.table.SessionTable.{SessionTable}
+use Rattle.reg_levels.specs.OrderGraph.Graph.{HasEdge}
+use Rattle.reg_levels.specs.declared.order_graph.edge.Edge.{Edge}
+use Rattle.causal_order.specs.SessionClocks.Clocks.{Asks}
+use Rattle.causal_order.specs.declared.session_clocks.table.SessionTable.{SessionTable}
 use Rattle.causal_order.specs.CausalGraph.{AreLearned, IsCausalGraph, Keeps}
 use Rattle.causal_order.specs.declared.graph.CausalGraph.{CausalGraph}
 

@@ -5,10 +5,10 @@ use Rattle.std.proofs.lemmas.Option.{slice_get_within}
 use Rattle.history_model.specs.Lists.{In}
 use Rattle.history_model.specs.Operations.{IsCompletedRead, IsWrite}
 use Rattle.history_model.specs.declared.operation.Operation.{Operation}
-use Rattle.order_graph.proofs.Places.{place-inside}
-use Rattle.causal_laws.specs.Causal.{IsKeptWrite, IsSource, Knows, Learns}
-use Rattle.session_clocks.specs.Sessions.{HasSource, IsAt, IsSourceAt}
-use Rattle.session_clocks.specs.declared.table.SessionTable.{SessionTable}
+use Rattle.reg_levels.proofs.OrderGraphLemmas.Places.{place-inside}
+use Rattle.level_laws.specs.Causal.{IsKeptWrite, IsSource, Knows, Learns}
+use Rattle.causal_order.specs.SessionClocks.Sessions.{HasSource, IsAt, IsSourceAt}
+use Rattle.causal_order.specs.declared.session_clocks.table.SessionTable.{SessionTable}
 use Rattle.causal_order.specs.CausalGraph.{IsTableOf}
 use Rattle.causal_order.proofs.Forward.{in_way}
 use Rattle.causal_order.proofs.Places.{In-register, initial-is, initial-write}

@@ -9,10 +9,10 @@ use Rattle.std.proofs.lemmas.Map.Steps.{length-le_from_distinct_below}
 use Rattle.std.proofs.lemmas.Map.Views.{Contains-from_any}
 use Rattle.std.proofs.lemmas.Option.{slice_get-get_or, slice_get_within}
 use Rattle.history_model.specs.declared.operation.Operation.{Operation}
-use Rattle.order_graph.specs.Graph.{IsForwardOrder}
-use Rattle.order_graph.specs.declared.edge.Edge.{Edge}
-use Rattle.session_clocks.specs.Clocks.{Asks, IsLearning, IsLearningOrder, IsTableInRange}
-use Rattle.session_clocks.specs.declared.table.SessionTable.{SessionTable}
+use Rattle.reg_levels.specs.OrderGraph.Graph.{IsForwardOrder}
+use Rattle.reg_levels.specs.declared.order_graph.edge.Edge.{Edge}
+use Rattle.causal_order.specs.SessionClocks.Clocks.{Asks, IsLearning, IsLearningOrder, IsTableInRange}
+use Rattle.causal_order.specs.declared.session_clocks.table.SessionTable.{SessionTable}
 use Rattle.causal_order.specs.CausalGraph.{AreLearned, IsTableOf}
 use Rattle.causal_order.proofs.Behind.{previous-both, source-both}
 

@@ -1,3 +1,4 @@
+pub mod SessionClockLemmas
 pub mod Joining
 pub mod Places
 pub mod Forward

@@ -4,9 +4,9 @@ use Rattle.std.proofs.Common.{Option, Some, ◌⊎◌, inl, inr}
 use Rattle.std.proofs.Common.{refl, sym, ap, ◌∙◌, subst, arith}
 use Rattle.std.proofs.lemmas.List.{length-append}
 use Rattle.std.proofs.lemmas.Option.{slice_get_read, slice_get_within}
-use Rattle.order_graph.proofs.Places.{place-push_cases, place-push_kept, place-same}
-use Rattle.session_clocks.specs.Clocks.{Asks, IsTableInRange}
-use Rattle.session_clocks.specs.declared.table.SessionTable.{SessionTable}
+use Rattle.reg_levels.proofs.OrderGraphLemmas.Places.{place-push_cases, place-push_kept, place-same}
+use Rattle.causal_order.specs.SessionClocks.Clocks.{Asks, IsTableInRange}
+use Rattle.causal_order.specs.declared.session_clocks.table.SessionTable.{SessionTable}
 use Rattle.causal_order.specs.Ways.{AreMet, IsFound, LeadTo}
 use Rattle.causal_order.specs.declared.knew.MetPlace.{MetPlace}
 

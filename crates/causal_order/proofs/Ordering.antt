@@ -10,12 +10,12 @@ use Rattle.history_model.proofs.Indexes.{append-Before}
 use Rattle.history_model.proofs.Lists.{Before-across, Before-filter, Before-right, In-filter, In-left}
 use Rattle.history_model.proofs.Lists.{In-right}
 use Rattle.history_model.proofs.Lists.{append-In, filter-Before, filter-In, slice_get-In}
-use Rattle.order_graph.specs.Graph.{HasEdge, IsForwardOrder}
-use Rattle.order_graph.specs.declared.edge.Edge.{Edge}
-use Rattle.causal_laws.specs.Causal.{IsCausalOrder, IsKeptWrite, IsSource, Knows}
-use Rattle.session_clocks.specs.Clocks.{IsLearningOrder}
-use Rattle.session_clocks.specs.Sessions.{HasSource, IsAt}
-use Rattle.session_clocks.specs.declared.table.SessionTable.{SessionTable}
+use Rattle.reg_levels.specs.OrderGraph.Graph.{HasEdge, IsForwardOrder}
+use Rattle.reg_levels.specs.declared.order_graph.edge.Edge.{Edge}
+use Rattle.level_laws.specs.Causal.{IsCausalOrder, IsKeptWrite, IsSource, Knows}
+use Rattle.causal_order.specs.SessionClocks.Clocks.{IsLearningOrder}
+use Rattle.causal_order.specs.SessionClocks.Sessions.{HasSource, IsAt}
+use Rattle.causal_order.specs.declared.session_clocks.table.SessionTable.{SessionTable}
 use Rattle.causal_order.specs.CausalGraph.{AreLearned, IsTableOf}
 use Rattle.causal_order.specs.CausalOrders.{AreReads, is_initial_at, is_listed_at}
 use Rattle.causal_order.specs.Covering.{IsSettled}
@@ -23,10 +23,10 @@ use Rattle.causal_order.specs.Decisions.{AreAt}
 use Rattle.causal_order.proofs.Behind.{source-both}
 use Rattle.causal_order.proofs.Forward.{in_way, knows_forward}
 use Rattle.causal_order.proofs.Learning.{forward-learning}
-use Rattle.session_clocks.proofs.Ordered.{at-once, at-one}
+use Rattle.causal_order.proofs.SessionClockLemmas.Ordered.{at-once, at-one}
 use Rattle.causal_order.proofs.Places.{In-at, at-Before, at-In, initial-is}
 use Rattle.causal_order.proofs.Places.{source-one}
-use Rattle.session_clocks.proofs.Learned.{initial-knows}
+use Rattle.causal_order.proofs.SessionClockLemmas.Learned.{initial-knows}
 use Rattle.causal_order.proofs.Learning.{learning-of}
 use Rattle.causal_order.proofs.Placing.{before_ops, before_places, in_ops, ops_before, ops_in}
 use Rattle.causal_order.proofs.Testing.{initial_place, listed_place, place_initial, place_listed}

@@ -7,8 +7,8 @@ use Rattle.history_model.specs.Operations.{IsWrite, initial_write, is_write, of_
 use Rattle.history_model.specs.declared.operation.Operation.{Operation}
 use Rattle.history_model.proofs.Lists.{slice_get-In}
 use Rattle.history_model.proofs.Recorded.{In-of_register}
-use Rattle.causal_laws.specs.Causal.{IsSource, IsWhole}
-use Rattle.session_clocks.specs.Sessions.{IsAt}
+use Rattle.level_laws.specs.Causal.{IsSource, IsWhole}
+use Rattle.causal_order.specs.SessionClocks.Sessions.{IsAt}
 
 pub at-In : (ops : List Operation) (p : ℕ) (a : Operation) → IsAt ops p a → In a ops
 at-In ops p a h = slice_get-In ops p a h

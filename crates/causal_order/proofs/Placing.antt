@@ -5,10 +5,10 @@ use Rattle.std.proofs.lemmas.Option.{slice_get-get_or}
 use Rattle.history_model.specs.Lists.{In, Before}
 use Rattle.history_model.specs.declared.operation.Operation.{Operation}
 use Rattle.history_model.proofs.Indexes.{get_or-Before}
-use Rattle.order_graph.proofs.Places.{place-inside}
-use Rattle.session_clocks.specs.Sessions.{IsAt}
+use Rattle.reg_levels.proofs.OrderGraphLemmas.Places.{place-inside}
+use Rattle.causal_order.specs.SessionClocks.Sessions.{IsAt}
 use Rattle.causal_order.specs.Decisions.{AreAt}
-use Rattle.session_clocks.proofs.Ordered.{at-one}
+use Rattle.causal_order.proofs.SessionClockLemmas.Ordered.{at-one}
 use Rattle.history_model.proofs.Indexes.{get_or-Before}
 
 -- the operations at places below their number

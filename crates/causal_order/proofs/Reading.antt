@@ -2,10 +2,10 @@
 use Rattle.std.proofs.Common.{◌≡◌, ℕ, ◌<◌, List, length, get_or, slice_get, Option, Some, true, false, ◌∙◌}
 use Rattle.std.specs.Option.{MatchOption, is_some}
 use Rattle.history_model.specs.declared.operation.Operation.{Operation}
-use Rattle.order_graph.specs.declared.edge.Edge.{Edge}
-use Rattle.session_clocks.specs.Clocks.{IsHeld, row_at}
-use Rattle.session_clocks.specs.WriteIndex.{IsWriteIndex}
-use Rattle.session_clocks.specs.declared.table.SessionTable.{SessionTable}
+use Rattle.reg_levels.specs.declared.order_graph.edge.Edge.{Edge}
+use Rattle.causal_order.specs.SessionClocks.Clocks.{IsHeld, row_at}
+use Rattle.causal_order.specs.SessionClocks.WriteIndex.{IsWriteIndex}
+use Rattle.causal_order.specs.declared.session_clocks.table.SessionTable.{SessionTable}
 use Rattle.causal_order.specs.Covering.{AreReached, IsAnyKnown, IsSettled, IsSourcedRead, IsStale}
 use Rattle.causal_order.specs.Walks.{IsWalk}
 use Rattle.causal_order.specs.declared.newer.SourcedRead.{SourcedRead}

@@ -9,9 +9,9 @@ use Rattle.std.proofs.lemmas.List.{append-nil, take_more, length-set, length-rep
 use Rattle.std.proofs.lemmas.Option.{slice_get-get_or}
 use Rattle.std.specs.Option.{is_none, is_some}
 use Rattle.history_model.specs.declared.operation.Operation.{Operation}
-use Rattle.order_graph.proofs.Places.{place-set, place-set_cases, place-set_other}
-use Rattle.session_clocks.specs.Sessions.{HasSource}
-use Rattle.session_clocks.specs.declared.table.SessionTable.{SessionTable}
+use Rattle.reg_levels.proofs.OrderGraphLemmas.Places.{place-set, place-set_cases, place-set_other}
+use Rattle.causal_order.specs.SessionClocks.Sessions.{HasSource}
+use Rattle.causal_order.specs.declared.session_clocks.table.SessionTable.{SessionTable}
 use Rattle.causal_order.specs.CausalOrders.{AreReads, is_initial_at, is_initial_of, is_listed_at}
 use Rattle.causal_order.specs.CausalOrders.{is_listed_of, is_listed_op}
 

@@ -5,15 +5,15 @@ use Rattle.std.proofs.Common.{inl, inr, refl, sym, ap, ◌∙◌, subst, arith, 
 use Rattle.std.specs.Global.{Global}
 use Rattle.std.proofs.lemmas.Option.{slice_get-get_or, slice_get_read, slice_get_within}
 use Rattle.history_model.specs.declared.operation.Operation.{Operation}
-use Rattle.order_graph.specs.Graph.{IsEdgeCycle, IsPath}
-use Rattle.order_graph.specs.declared.edge.Edge.{Edge}
-use Rattle.order_graph.proofs.Places.{place-inside, place-same}
-use Rattle.causal_laws.specs.Causal.{IsWay, Learns}
-use Rattle.causal_laws.specs.Fault.{AreSteps, IsCycle, IsReason, Reason, Step, first_of}
-use Rattle.causal_laws.specs.Fault.Reason.{process, read, hidden}
-use Rattle.session_clocks.specs.Clocks.{Asks}
-use Rattle.session_clocks.specs.Sessions.{IsAt}
-use Rattle.session_clocks.specs.declared.table.SessionTable.{SessionTable}
+use Rattle.reg_levels.specs.OrderGraph.Graph.{IsEdgeCycle, IsPath}
+use Rattle.reg_levels.specs.declared.order_graph.edge.Edge.{Edge}
+use Rattle.reg_levels.proofs.OrderGraphLemmas.Places.{place-inside, place-same}
+use Rattle.level_laws.specs.Causal.{IsWay, Learns}
+use Rattle.level_laws.specs.CausalFault.{AreSteps, IsCausalCycle, IsReason, Reason, Step, first_of}
+use Rattle.level_laws.specs.CausalFault.Reason.{process, read, hidden}
+use Rattle.causal_order.specs.SessionClocks.Clocks.{Asks}
+use Rattle.causal_order.specs.SessionClocks.Sessions.{IsAt}
+use Rattle.causal_order.specs.declared.session_clocks.table.SessionTable.{SessionTable}
 use Rattle.causal_order.specs.CausalGraph.{IsCausalGraph, IsFor, IsTableOf}
 use Rattle.causal_order.specs.Decisions.{AreAt, AreStepsOf, IsCycleOf, IsKnew, IsStepOf, IsWhyOf}
 use Rattle.causal_order.specs.Ways.{AreEdgeSteps, IsEdgeStep, IsFoundIf, IsShownWhy, LeadTo}
@@ -24,7 +24,7 @@ use Rattle.causal_order.specs.declared.graph.CausalGraph.{CausalGraph}
 use Rattle.causal_order.specs.declared.graph.EdgeReason.{EdgeReason}
 use Rattle.causal_order.specs.declared.graph.EdgeReason.TheVariants.{Session, Source, Known}
 use Rattle.causal_order.proofs.Behind.{AreBoth, previous-both, source-both}
-use Rattle.session_clocks.proofs.Ordered.{at-one}
+use Rattle.causal_order.proofs.SessionClockLemmas.Ordered.{at-one}
 use Rattle.causal_order.proofs.Places.{at-In}
 
 -- ---- ways
@@ -143,7 +143,7 @@ module _ (ops : List Operation) (table : SessionTable) (t : IsTableOf ops table)
 
     pub cycle-steps : (cycle : List ℕ) (shown : List CausalStep) → AreEdgeSteps table graph cycle shown
         → IsEdgeCycle graph.edges.items cycle
-        → (steps : List Step) × IsCycleOf ops shown steps × IsCycle ops steps
+        → (steps : List Step) × IsCycleOf ops shown steps × IsCausalCycle ops steps
     cycle-steps [] shown s c = absurd (omega (arith, c.0))
     cycle-steps (k ∷ cycle) [] s c = absurd s
     cycle-steps (k ∷ cycle) (x ∷ shown) s (some, (a, path)) =
@@ -161,7 +161,8 @@ module _ (ops : List Operation) (table : SessionTable) (t : IsTableOf ops table)
             (behind.earlier, subst (λ n. IsAt ops n behind.earlier) p.2 behind.at_earlier)
 
         go : (steps : List Step) (b : Operation) → AreStepsOf ops (x ∷ shown) steps b → AreSteps ops steps b
-            → first_of steps b ≡ b → (steps : List Step) × IsCycleOf ops (x ∷ shown) steps × IsCycle ops steps
+            → first_of steps b ≡ b
+            → (steps : List Step) × IsCycleOf ops (x ∷ shown) steps × IsCausalCycle ops steps
         go [] b of_all are e = absurd of_all
         go (step ∷ steps) b of_all are e = (
           step ∷ steps,

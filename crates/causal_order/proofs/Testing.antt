@@ -7,10 +7,10 @@ use Rattle.history_model.specs.Lists.{In}
 use Rattle.history_model.specs.Operations.{IsCompleted, IsWrite, is_write}
 use Rattle.history_model.specs.declared.operation.Operation.{Operation}
 use Rattle.history_model.proofs.Lists.{append-In, filter-In}
-use Rattle.order_graph.specs.Graph.{IsForwardOrder}
-use Rattle.order_graph.specs.declared.edge.Edge.{Edge}
-use Rattle.order_graph.proofs.Places.{place-inside}
-use Rattle.session_clocks.specs.Sessions.{IsAt}
+use Rattle.reg_levels.specs.OrderGraph.Graph.{IsForwardOrder}
+use Rattle.reg_levels.specs.declared.order_graph.edge.Edge.{Edge}
+use Rattle.reg_levels.proofs.OrderGraphLemmas.Places.{place-inside}
+use Rattle.causal_order.specs.SessionClocks.Sessions.{IsAt}
 use Rattle.causal_order.specs.CausalOrders.{is_initial_at, is_initial_of, is_listed_at, is_listed_of}
 use Rattle.causal_order.proofs.Places.{In-at}
 

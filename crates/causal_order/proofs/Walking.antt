@@ -8,13 +8,13 @@ use Rattle.std.proofs.lemmas.Bool.{cases_lt, cases_order}
 use Rattle.std.proofs.lemmas.Option.{get_or_from_slice_get, slice_get_read, slice_get_within}
 use Rattle.history_model.specs.Operations.{IsWrite}
 use Rattle.history_model.specs.declared.operation.Operation.{Operation}
-use Rattle.order_graph.specs.Graph.{HasEdge}
-use Rattle.order_graph.specs.declared.edge.Edge.{Edge}
-use Rattle.causal_laws.specs.Causal.{IsSource, Knows}
-use Rattle.session_clocks.specs.Clocks.{IsHeld, IsRow, row_at}
-use Rattle.session_clocks.specs.Sessions.{HasSession, HasSource, IsAt}
-use Rattle.session_clocks.specs.WriteIndex.{IsWriteBy}
-use Rattle.session_clocks.specs.declared.table.SessionTable.{SessionTable}
+use Rattle.reg_levels.specs.OrderGraph.Graph.{HasEdge}
+use Rattle.reg_levels.specs.declared.order_graph.edge.Edge.{Edge}
+use Rattle.level_laws.specs.Causal.{IsSource, Knows}
+use Rattle.causal_order.specs.SessionClocks.Clocks.{IsHeld, IsRow, row_at}
+use Rattle.causal_order.specs.SessionClocks.Sessions.{HasSession, HasSource, IsAt}
+use Rattle.causal_order.specs.SessionClocks.WriteIndex.{IsWriteBy}
+use Rattle.causal_order.specs.declared.session_clocks.table.SessionTable.{SessionTable}
 use Rattle.causal_order.specs.CausalGraph.{IsTableOf, Keeps}
 use Rattle.causal_order.specs.Covering.{AreReached, AreSettled, IsAnyKnown, IsSettled, IsSourcedRead, IsStale}
 use Rattle.causal_order.specs.Walks.{IsWalk}
@@ -22,7 +22,7 @@ use Rattle.causal_order.specs.declared.newer.SourcedRead.{SourcedRead}
 use Rattle.causal_order.specs.declared.walk.LearningWalk.{LearningWalk}
 use Rattle.causal_order.proofs.Behind.{AreBoth, source-both}
 use Rattle.causal_order.proofs.Covers.{write-read}
-use Rattle.session_clocks.proofs.Ordered.{at-one, calls_ascend}
+use Rattle.causal_order.proofs.SessionClockLemmas.Ordered.{at-one, calls_ascend}
 use Rattle.causal_order.proofs.Places.{at-In, initial-write}
 
 none-from : (o : Option ℕ) → is_some o ≡ false → o ≡ None

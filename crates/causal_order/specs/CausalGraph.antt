@@ -3,16 +3,16 @@
 -- thinned out by sessions).
 use Rattle.std.specs.Prelude.{◌≡◌, ℕ, ◌<◌, ◌^◌, List, [], ◌∷◌, ◌++◌, length, slice_get, Some}
 use Rattle.history_model.specs.declared.operation.Operation.{Operation}
-use Rattle.causal_laws.specs.Causal.{IsSource, IsWhole}
-use Rattle.causal_laws.specs.Fault.{IsEarlierCall, IsHiddenBy}
-use Rattle.order_graph.specs.Graph.{HasEdge}
-use Rattle.order_graph.specs.declared.edge.Edge.{Edge}
+use Rattle.level_laws.specs.Causal.{IsSource, IsWhole}
+use Rattle.level_laws.specs.CausalFault.{IsEarlierCall, IsHiddenBy}
+use Rattle.reg_levels.specs.OrderGraph.Graph.{HasEdge}
+use Rattle.reg_levels.specs.declared.order_graph.edge.Edge.{Edge}
 use Rattle.causal_order.specs.declared.graph.CausalGraph.{CausalGraph}
 use Rattle.causal_order.specs.declared.graph.EdgeReason.{EdgeReason}
 use Rattle.causal_order.specs.declared.graph.EdgeReason.TheVariants.{Session, Source, Known}
-use Rattle.session_clocks.specs.Clocks.{Asks}
-use Rattle.session_clocks.specs.Sessions.{IsAt, IsCalledInOrder, IsSessionTable}
-use Rattle.session_clocks.specs.declared.table.SessionTable.{SessionTable}
+use Rattle.causal_order.specs.SessionClocks.Clocks.{Asks}
+use Rattle.causal_order.specs.SessionClocks.Sessions.{IsAt, IsCalledInOrder, IsSessionTable}
+use Rattle.causal_order.specs.declared.session_clocks.table.SessionTable.{SessionTable}
 
 -- why the operation a comes before b
 abbrev pub IsFor : List Operation → Operation → Operation → EdgeReason → Type 0

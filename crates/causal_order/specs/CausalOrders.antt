@@ -4,8 +4,8 @@ use Rattle.std.specs.Prelude.{Some, None}
 use Rattle.std.specs.Option.{is_none, is_some}
 use Rattle.history_model.specs.Operations.{is_write}
 use Rattle.history_model.specs.declared.operation.Operation.{Operation}
-use Rattle.session_clocks.specs.Sessions.{HasSource}
-use Rattle.session_clocks.specs.declared.table.SessionTable.{SessionTable}
+use Rattle.causal_order.specs.SessionClocks.Sessions.{HasSource}
+use Rattle.causal_order.specs.declared.session_clocks.table.SessionTable.{SessionTable}
 
 -- nobody called it
 abbrev pub is_initial_of : Option Operation → Bool

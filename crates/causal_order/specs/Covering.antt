@@ -2,14 +2,14 @@
 use Rattle.std.specs.Prelude.{◌≡◌, ◌⊎◌, ℕ, ◌<◌, ◌≤◌, List, get_or, slice_get, Option, Some, None}
 use Rattle.history_model.specs.Operations.{IsWrite}
 use Rattle.history_model.specs.declared.operation.Operation.{Operation}
-use Rattle.causal_laws.specs.Causal.{IsSource, Knows}
-use Rattle.causal_laws.specs.Fault.{IsHiddenBy}
-use Rattle.order_graph.specs.Graph.{HasEdge}
-use Rattle.order_graph.specs.declared.edge.Edge.{Edge}
-use Rattle.session_clocks.specs.Clocks.{IsRow}
-use Rattle.session_clocks.specs.Sessions.{HasSource, IsAt}
-use Rattle.session_clocks.specs.WriteIndex.{IsLastBelow, IsWriteBy}
-use Rattle.session_clocks.specs.declared.table.SessionTable.{SessionTable}
+use Rattle.level_laws.specs.Causal.{IsSource, Knows}
+use Rattle.level_laws.specs.CausalFault.{IsHiddenBy}
+use Rattle.reg_levels.specs.OrderGraph.Graph.{HasEdge}
+use Rattle.reg_levels.specs.declared.order_graph.edge.Edge.{Edge}
+use Rattle.causal_order.specs.SessionClocks.Clocks.{IsRow}
+use Rattle.causal_order.specs.SessionClocks.Sessions.{HasSource, IsAt}
+use Rattle.causal_order.specs.SessionClocks.WriteIndex.{IsLastBelow, IsWriteBy}
+use Rattle.causal_order.specs.declared.session_clocks.table.SessionTable.{SessionTable}
 use Rattle.causal_order.specs.CausalGraph.{IsTableOf}
 use Rattle.causal_order.specs.declared.newer.SourcedRead.{SourcedRead}
 

@@ -4,11 +4,11 @@ use Rattle.std.specs.Prelude.{◌≡◌, ℕ, ◌+◌, ◌*◌, ◌^◌, ◌<◌
 use Rattle.std.specs.Prelude.{Vec}
 use Rattle.std.specs.Global.{Global}
 use Rattle.history_model.specs.declared.operation.Operation.{Operation}
-use Rattle.causal_laws.specs.Causal.{IsCausalOrder, IsWay}
-use Rattle.causal_laws.specs.Fault.{IsCausalFault, Reason, Step, first_of}
-use Rattle.causal_laws.specs.Fault.{CausalFault as Evidence}
-use Rattle.causal_laws.specs.Fault.Reason.{process, read, initial, hidden}
-use Rattle.causal_laws.specs.Fault.CausalFault.{unwritten, cycle}
+use Rattle.level_laws.specs.Causal.{IsCausalOrder, IsWay}
+use Rattle.level_laws.specs.CausalFault.{IsCausalFault, Reason, Step, first_of}
+use Rattle.level_laws.specs.CausalFault.{CausalFault as Evidence}
+use Rattle.level_laws.specs.CausalFault.Reason.{process, read, initial, hidden}
+use Rattle.level_laws.specs.CausalFault.CausalFault.{unwritten, cycle}
 use Rattle.causal_order.specs.declared.decision.CausalFault.{CausalFault}
 use Rattle.causal_order.specs.declared.decision.CausalFault.TheVariants.{Unwritten, Cycle}
 use Rattle.causal_order.specs.declared.decision.CausalStep.{CausalStep}
@@ -16,8 +16,8 @@ use Rattle.causal_order.specs.declared.decision.Decision.{Decision}
 use Rattle.causal_order.specs.declared.decision.Decision.TheVariants.{Causal, Broken, Unknown}
 use Rattle.causal_order.specs.declared.decision.Why.{Why}
 use Rattle.causal_order.specs.declared.decision.Why.TheVariants.{Process, Read, Initial, Hidden}
-use Rattle.session_clocks.specs.Sessions.{IsAt, IsSessionTable}
-use Rattle.session_clocks.specs.declared.table.SessionTable.{SessionTable}
+use Rattle.causal_order.specs.SessionClocks.Sessions.{IsAt, IsSessionTable}
+use Rattle.causal_order.specs.declared.session_clocks.table.SessionTable.{SessionTable}
 
 -- the operations at these places
 abbrev pub AreAt : List Operation → List ℕ → List Operation → Type 0

@@ -1,3 +1,4 @@
+pub mod SessionClocks
 pub mod CausalGraph
 pub mod Decisions
 pub mod Ways

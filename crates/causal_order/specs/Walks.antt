@@ -2,10 +2,10 @@
 -- words).
 use Rattle.std.specs.Prelude.{◌≡◌, ℕ, ◌+◌, ◌*◌, ◌^◌, ◌<◌, ◌≤◌, List, length, Option}
 use Rattle.history_model.specs.declared.operation.Operation.{Operation}
-use Rattle.order_graph.specs.declared.edge.Edge.{Edge}
-use Rattle.session_clocks.specs.Clocks.{AreClocks}
-use Rattle.session_clocks.specs.WriteIndex.{IsWriteIndex}
-use Rattle.session_clocks.specs.declared.table.SessionTable.{SessionTable}
+use Rattle.reg_levels.specs.declared.order_graph.edge.Edge.{Edge}
+use Rattle.causal_order.specs.SessionClocks.Clocks.{AreClocks}
+use Rattle.causal_order.specs.SessionClocks.WriteIndex.{IsWriteIndex}
+use Rattle.causal_order.specs.declared.session_clocks.table.SessionTable.{SessionTable}
 use Rattle.causal_order.specs.CausalGraph.{IsCausalGraph, Keeps}
 use Rattle.causal_order.specs.Covering.{AreSettled, IsSettled, IsStale}
 use Rattle.causal_order.specs.declared.graph.CausalGraph.{CausalGraph}

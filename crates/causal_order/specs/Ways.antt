@@ -3,7 +3,7 @@
 use Rattle.std.specs.Prelude.{◌≡◌, ℕ, suc, ◌<◌, List, [], ◌∷◌, ◌++◌, length, slice_get, Option, Some, None}
 use Rattle.std.specs.Prelude.{Vec}
 use Rattle.std.specs.Global.{Global}
-use Rattle.order_graph.specs.declared.edge.Edge.{Edge}
+use Rattle.reg_levels.specs.declared.order_graph.edge.Edge.{Edge}
 use Rattle.causal_order.specs.declared.decision.CausalStep.{CausalStep}
 use Rattle.causal_order.specs.declared.decision.Why.{Why}
 use Rattle.causal_order.specs.declared.decision.Why.TheVariants.{Process, Read, Initial, Hidden}
@@ -11,8 +11,8 @@ use Rattle.causal_order.specs.declared.graph.CausalGraph.{CausalGraph}
 use Rattle.causal_order.specs.declared.graph.EdgeReason.{EdgeReason}
 use Rattle.causal_order.specs.declared.graph.EdgeReason.TheVariants.{Session, Source, Known}
 use Rattle.causal_order.specs.declared.knew.MetPlace.{MetPlace}
-use Rattle.session_clocks.specs.Clocks.{Asks}
-use Rattle.session_clocks.specs.declared.table.SessionTable.{SessionTable}
+use Rattle.causal_order.specs.SessionClocks.Clocks.{Asks}
+use Rattle.causal_order.specs.declared.session_clocks.table.SessionTable.{SessionTable}
 
 -- the places between p and q, each of an operation that learns at once of that at the place before it
 abbrev pub LeadTo : SessionTable → ℕ → List ℕ → ℕ → Type 0

@@ -1,22 +1,22 @@
 //! Whether a history is causal.
 ghost use Rattle.std.specs.Prelude.{IfOk, Some, length, slice_get, ◌*◌, ◌≡◌, ◌≤◌, ◌<◌, ◌^◌, ℕ};
-ghost use Rattle.causal_laws.specs.Causal.{IsWhole};
+ghost use Rattle.level_laws.specs.Causal.{IsWhole};
 ghost use Rattle.causal_order.specs.CausalGraph.{AreLearned, IsCausalGraph, IsTableOf};
 ghost use Rattle.causal_order.specs.Decisions.{IsDecision};
 ghost use Rattle.causal_order.specs.Walks.{AreAllSettled, IsSmall};
-ghost use Rattle.session_clocks.specs.Clocks.{IsLearning};
-ghost use Rattle.session_clocks.specs.Sessions.{IsCalledInOrder};
+ghost use Rattle.causal_order.specs.SessionClocks.Clocks.{IsLearning};
+ghost use Rattle.causal_order.specs.SessionClocks.Sessions.{IsCalledInOrder};
 
 use crate::bounds::MAX_WORK;
 use crate::decision::{CausalFault, CausalStep, Decision};
 use crate::graph::CausalGraph;
 use crate::learned::learned_graph;
 use crate::listing::writes_in;
+use crate::session_clocks::{SessionTable, session_table};
 use crate::steps::{stale_steps, steps_of};
 use crate::walk::{Walked, walk};
 use history_model::Operation;
-use order_graph::{Sorted, sort};
-use session_clocks::{SessionTable, session_table};
+use reg_levels::order_graph::{Sorted, sort};
 use std::alloc::{AllocError, Global};
 
 /// Decides whether a history is causal, from all its operations: the initial writes, then the others by

@@ -1,10 +1,10 @@
 //! The graph of what comes before what. Its nodes are the places of the operations.
 ghost use Rattle.std.specs.Prelude.{List, OnOk, [], length, ◌++◌, ◌≡◌, ◌∷◌, ◌≤◌, ◌+◌, ℕ};
 ghost use Rattle.causal_order.specs.CausalGraph.{IsBehind, IsCausalGraph, Joins, Keeps};
-ghost use Rattle.order_graph.specs.Graph.{HasEdge};
+ghost use Rattle.reg_levels.specs.OrderGraph.Graph.{HasEdge};
 ghost use Rattle.history_model.specs.declared.operation.Operation.{Operation as AnOperation};
 
-use order_graph::Edge;
+use reg_levels::order_graph::Edge;
 use std::alloc::{AllocError, Global};
 
 /// Why an edge leads from an operation to another.

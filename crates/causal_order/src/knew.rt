@@ -3,11 +3,11 @@ ghost use Rattle.std.specs.Prelude.{IfOk, IfSome, IsTrue, List, OnOk, Option, So
 ghost use Rattle.std.specs.Prelude.{◌++◌, ◌∷◌, ◌≡◌, ◌≤◌, ◌<◌, ◌⊎◌, ℕ, []};
 ghost use Rattle.causal_order.specs.Ways.{AreMet, IsFound};
 ghost use Rattle.causal_order.specs.declared.knew.MetPlace.{MetPlace as AMet};
-ghost use Rattle.session_clocks.specs.Clocks.{Asks, IsTableInRange};
-ghost use Rattle.session_clocks.specs.declared.table.SessionTable.{SessionTable as ATable};
+ghost use Rattle.causal_order.specs.SessionClocks.Clocks.{Asks, IsTableInRange};
+ghost use Rattle.causal_order.specs.declared.session_clocks.table.SessionTable.{SessionTable as ATable};
 
 use crate::bounds::MAX_MET;
-use session_clocks::SessionTable;
+use crate::session_clocks::SessionTable;
 use std::alloc::{AllocError, Global};
 
 /// A place that a search met.

@@ -2,10 +2,10 @@
 ghost use Rattle.std.specs.Prelude.{IfOk, List, length, ◌≡◌, ◌≤◌, ◌*◌, ◌<◌, ◌^◌};
 ghost use Rattle.causal_order.specs.CausalGraph.{AreLearned, IsCausalGraph};
 ghost use Rattle.history_model.specs.declared.operation.Operation.{Operation as AnOperation};
-ghost use Rattle.session_clocks.specs.Sessions.{IsCalledInOrder, IsSessionTable};
+ghost use Rattle.causal_order.specs.SessionClocks.Sessions.{IsCalledInOrder, IsSessionTable};
 
 use crate::graph::{CausalGraph, EdgeReason};
-use session_clocks::SessionTable;
+use crate::session_clocks::SessionTable;
 use std::alloc::{AllocError, Global};
 
 /// The graph of what each operation learns of at once.

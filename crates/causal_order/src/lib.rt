@@ -8,10 +8,10 @@
 //! An operation comes before another because one process called both, because the other gives its value, or
 //! because a read that gives the other's value knows of it (Bouajjani, Enea, Guerraoui and Hamza, On
 //! Verifying Causal Consistency, POPL 2017). The graph of these is sorted: its cycle is the fault, and its
-//! order, begun with the initial writes, is causal. Read it in this order: `bounds`, how much a decision may
-//! take; `decision`, what is answered; `graph`; `learned`, what operations learn of at once; `walk` and
-//! `newer`, what reads know; `listing`, the order; `steps` and `knew`, the fault; `deciding`, which puts
-//! these together.
+//! order, begun with the initial writes, is causal. Read it in this order: `session_clocks`, how far each
+//! operation knows of each session; `bounds`, how much a decision may take; `decision`, what is answered;
+//! `graph`; `learned`, what operations learn of at once; `walk` and `newer`, what reads know; `listing`, the
+//! order; `steps` and `knew`, the fault; `deciding`, which puts these together.
 #![tactic(auto)]
 
 mod bounds;
@@ -22,6 +22,7 @@ mod knew;
 mod learned;
 mod listing;
 mod newer;
+mod session_clocks;
 mod steps;
 mod walk;
 

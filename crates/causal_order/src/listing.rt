@@ -2,10 +2,10 @@
 ghost use Rattle.std.specs.Prelude.{Bool, IfOk, List, OnOk, Some, length, slice_get, ◌++◌, ◌≡◌, ◌<◌, ℕ};
 ghost use Rattle.std.specs.List.{filter};
 ghost use Rattle.causal_order.specs.CausalOrders.{AreReads, is_initial_at, is_listed_at, is_listed_op};
-ghost use Rattle.session_clocks.specs.Clocks.{IsTableInRange};
+ghost use Rattle.causal_order.specs.SessionClocks.Clocks.{IsTableInRange};
 
+use crate::session_clocks::SessionTable;
 use history_model::Operation;
-use session_clocks::SessionTable;
 use std::alloc::{AllocError, Global};
 
 /// The initial writes of an order, and then its other writes that are completed or that a completed read

@@ -3,12 +3,12 @@ ghost use Rattle.std.specs.Prelude.{List, OnOk, get_or, length, ◌+◌, ◌≡�
 ghost use Rattle.causal_order.specs.CausalGraph.{IsCausalGraph, Keeps};
 ghost use Rattle.causal_order.specs.Covering.{AreReached, IsAnyKnown, IsNewest, IsSourcedRead};
 ghost use Rattle.history_model.specs.declared.operation.Operation.{Operation as AnOperation};
-ghost use Rattle.session_clocks.specs.WriteIndex.{IsOrdered, IsWriteIndex};
-ghost use Rattle.session_clocks.specs.declared.table.SessionTable.{SessionTable as ATable};
+ghost use Rattle.causal_order.specs.SessionClocks.WriteIndex.{IsOrdered, IsWriteIndex};
+ghost use Rattle.causal_order.specs.declared.session_clocks.table.SessionTable.{SessionTable as ATable};
 
 use crate::graph::{CausalGraph, EdgeReason};
-use order_graph::Edge;
-use session_clocks::WriteIndex;
+use crate::session_clocks::WriteIndex;
+use reg_levels::order_graph::Edge;
 use std::alloc::AllocError;
 
 /// A completed read and the write of its value, by their places.

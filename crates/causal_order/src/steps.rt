@@ -1,19 +1,19 @@
 //! The steps of a cycle of the graph.
 ghost use Rattle.std.specs.Prelude.{IfOk, List, Some, length, slice_get, ◌≡◌, ℕ};
-ghost use Rattle.causal_laws.specs.Fault.{IsCycle, Step};
+ghost use Rattle.level_laws.specs.CausalFault.{IsCausalCycle, Step};
 ghost use Rattle.causal_order.specs.CausalGraph.{IsCausalGraph, IsTableOf};
 ghost use Rattle.causal_order.specs.Covering.{IsStale};
 ghost use Rattle.causal_order.specs.Decisions.{IsCycleOf};
 ghost use Rattle.causal_order.specs.Ways.{IsReadWithin, IsShownWhy};
 ghost use Rattle.causal_order.specs.declared.graph.EdgeReason.{EdgeReason as AReason};
 ghost use Rattle.history_model.specs.declared.operation.Operation.{Operation as AnOperation};
-ghost use Rattle.order_graph.specs.Graph.{IsEdgeCycle};
-ghost use Rattle.session_clocks.specs.Clocks.{IsTableInRange};
+ghost use Rattle.reg_levels.specs.OrderGraph.Graph.{IsEdgeCycle};
+ghost use Rattle.causal_order.specs.SessionClocks.Clocks.{IsTableInRange};
 
 use crate::decision::{CausalStep, Why};
 use crate::graph::{CausalGraph, EdgeReason};
 use crate::knew::KnewSearch;
-use session_clocks::SessionTable;
+use crate::session_clocks::SessionTable;
 use std::alloc::{AllocError, Global};
 
 /// The steps along a cycle of the graph's edges.
@@ -30,7 +30,7 @@ pub(crate) fn steps_of(
         → IsReadWithin (length table.now.previous.items) reason }
     ensures { IfOk result (λ shown. (ops : List AnOperation) → IsTableOf ops table.now
         → IsCausalGraph ops graph.now
-        → (steps : List Step) × IsCycleOf ops shown.items steps × IsCycle ops steps) }
+        → (steps : List Step) × IsCycleOf ops shown.items steps × IsCausalCycle ops steps) }
 {
     let mut search = KnewSearch::new(alloc, table)?;
     let mut steps = Vec::with_capacity(alloc, cycle.len())?;
@@ -82,7 +82,7 @@ pub(crate) fn stale_steps(
     requires stale { (ops : List AnOperation) × IsTableOf ops table.now × IsStale ops table.now write read }
     ensures { IfOk result (λ shown. (ops : List AnOperation) → IsTableOf ops table.now
         → IsStale ops table.now write read
-        → (steps : List Step) × IsCycleOf ops shown.items steps × IsCycle ops steps) }
+        → (steps : List Step) × IsCycleOf ops shown.items steps × IsCausalCycle ops steps) }
 {
     let mut steps = Vec::with_capacity(alloc, 2)?;
     let Some(source) = table.sources[read as usize] else {

@@ -5,13 +5,13 @@ ghost use Rattle.std.specs.Prelude.{None, Some, true, false, ◌⊎◌};
 ghost use Rattle.causal_order.specs.CausalGraph.{IsCausalGraph, Keeps};
 ghost use Rattle.causal_order.specs.Covering.{IsSettled, IsStale};
 ghost use Rattle.causal_order.specs.Walks.{IsSameWalk, IsSmall, IsWalk, IsWalked};
-ghost use Rattle.session_clocks.specs.Clocks.{AreSized, IsLearning};
+ghost use Rattle.causal_order.specs.SessionClocks.Clocks.{AreSized, IsLearning};
 
 use crate::bounds::{MAX_CLOCKS, MAX_EDGES};
 use crate::graph::CausalGraph;
 use crate::newer::{SourcedRead, any_known};
+use crate::session_clocks::{Clocks, SessionTable, WriteIndex};
 use history_model::Operation;
-use session_clocks::{Clocks, SessionTable, WriteIndex};
 use std::alloc::{AllocError, Global};
 
 /// A walk in which operations are taken one after another.

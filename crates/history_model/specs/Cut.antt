@@ -10,15 +10,7 @@ is_over t a = a.completed && nat_le a.reply t
 
 -- the operation without a later reply, and pending then; what it did stays
 abbrev pub known_at : ℕ → Operation → Operation
-known_at t a = record {
-  line = a.line;
-  call = a.call;
-  reply = cond (is_over t a) a.reply (suc t);
-  completed = is_over t a;
-  process = a.process;
-  register = a.register;
-  act = a.act;
-}
+known_at t a = record a { reply = cond (is_over t a) a.reply (suc t); completed = is_over t a }
 
 abbrev pub is_called_by : ℕ → Operation → Bool
 is_called_by t a = nat_le a.call t

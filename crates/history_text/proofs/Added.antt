@@ -53,15 +53,8 @@ record AreOther (k : List ℕ) : Type 0 where
   found : bytes_eq (codes "found") k ≡ false
 
 module _ (taken : Operations) (f : FlatMembers) (ms : Members) (h : Holds taken ms f) where
-  put_process : (p : ℕ) → p ≤ MAX_PROCESS → Holds taken (put (codes "process") (whole_data p) ms) (record {
+  put_process : (p : ℕ) → p ≤ MAX_PROCESS → Holds taken (put (codes "process") (whole_data p) ms) (record f {
     process = Some p;
-    event = f.event;
-    op = f.op;
-    register = f.register;
-    value = f.value;
-    from = f.from;
-    to = f.to;
-    ok = f.ok;
   })
   put_process p fits = record {
     process = get_member-put (codes "process") (whole_data p) ms;
@@ -77,15 +70,8 @@ module _ (taken : Operations) (f : FlatMembers) (ms : Members) (h : Holds taken 
     without = still_without (codes "process") (whole_data p) ms h.without refl refl refl;
   }
 
-  put_event : (w : EventWord) → Holds taken (put (codes "event") (event_data w) ms) (record {
-    process = f.process;
+  put_event : (w : EventWord) → Holds taken (put (codes "event") (event_data w) ms) (record f {
     event = Some w;
-    op = f.op;
-    register = f.register;
-    value = f.value;
-    from = f.from;
-    to = f.to;
-    ok = f.ok;
   })
   put_event w = record {
     process = other (codes "process") (codes "event") (event_data w) ms refl ∙ h.process;
@@ -101,15 +87,8 @@ module _ (taken : Operations) (f : FlatMembers) (ms : Members) (h : Holds taken 
     without = still_without (codes "event") (event_data w) ms h.without refl refl refl;
   }
 
-  put_op : (w : OpWord) → takes taken w ≡ true → Holds taken (put (codes "op") (op_data w) ms) (record {
-    process = f.process;
-    event = f.event;
+  put_op : (w : OpWord) → takes taken w ≡ true → Holds taken (put (codes "op") (op_data w) ms) (record f {
     op = Some w;
-    register = f.register;
-    value = f.value;
-    from = f.from;
-    to = f.to;
-    ok = f.ok;
   })
   put_op w fits = record {
     process = other (codes "process") (codes "op") (op_data w) ms refl ∙ h.process;
@@ -125,15 +104,8 @@ module _ (taken : Operations) (f : FlatMembers) (ms : Members) (h : Holds taken 
     without = still_without (codes "op") (op_data w) ms h.without refl refl refl;
   }
 
-  put_register : (s : Bor (List ℕ)) → Holds taken (put (codes "register") (string s.now) ms) (record {
-    process = f.process;
-    event = f.event;
-    op = f.op;
+  put_register : (s : Bor (List ℕ)) → Holds taken (put (codes "register") (string s.now) ms) (record f {
     register = Some s;
-    value = f.value;
-    from = f.from;
-    to = f.to;
-    ok = f.ok;
   })
   put_register s = record {
     process = other (codes "process") (codes "register") (string s.now) ms refl ∙ h.process;
@@ -149,16 +121,7 @@ module _ (taken : Operations) (f : FlatMembers) (ms : Members) (h : Holds taken 
     without = still_without (codes "register") (string s.now) ms h.without refl refl refl;
   }
 
-  put_value : (v : Val) → Holds taken (put (codes "value") (value_data v) ms) (record {
-    process = f.process;
-    event = f.event;
-    op = f.op;
-    register = f.register;
-    value = Some v;
-    from = f.from;
-    to = f.to;
-    ok = f.ok;
-  })
+  put_value : (v : Val) → Holds taken (put (codes "value") (value_data v) ms) (record f { value = Some v })
   put_value v = record {
     process = other (codes "process") (codes "value") (value_data v) ms refl ∙ h.process;
     limit = h.limit;
@@ -173,16 +136,7 @@ module _ (taken : Operations) (f : FlatMembers) (ms : Members) (h : Holds taken 
     without = still_without (codes "value") (value_data v) ms h.without refl refl refl;
   }
 
-  put_from : (v : Val) → Holds taken (put (codes "from") (value_data v) ms) (record {
-    process = f.process;
-    event = f.event;
-    op = f.op;
-    register = f.register;
-    value = f.value;
-    from = Some v;
-    to = f.to;
-    ok = f.ok;
-  })
+  put_from : (v : Val) → Holds taken (put (codes "from") (value_data v) ms) (record f { from = Some v })
   put_from v = record {
     process = other (codes "process") (codes "from") (value_data v) ms refl ∙ h.process;
     limit = h.limit;
@@ -197,16 +151,7 @@ module _ (taken : Operations) (f : FlatMembers) (ms : Members) (h : Holds taken 
     without = still_without (codes "from") (value_data v) ms h.without refl refl refl;
   }
 
-  put_to : (v : Val) → Holds taken (put (codes "to") (value_data v) ms) (record {
-    process = f.process;
-    event = f.event;
-    op = f.op;
-    register = f.register;
-    value = f.value;
-    from = f.from;
-    to = Some v;
-    ok = f.ok;
-  })
+  put_to : (v : Val) → Holds taken (put (codes "to") (value_data v) ms) (record f { to = Some v })
   put_to v = record {
     process = other (codes "process") (codes "to") (value_data v) ms refl ∙ h.process;
     limit = h.limit;
@@ -221,16 +166,7 @@ module _ (taken : Operations) (f : FlatMembers) (ms : Members) (h : Holds taken 
     without = still_without (codes "to") (value_data v) ms h.without refl refl refl;
   }
 
-  put_ok : (b : Bool) → Holds taken (put (codes "ok") (boolean b) ms) (record {
-    process = f.process;
-    event = f.event;
-    op = f.op;
-    register = f.register;
-    value = f.value;
-    from = f.from;
-    to = f.to;
-    ok = Some b;
-  })
+  put_ok : (b : Bool) → Holds taken (put (codes "ok") (boolean b) ms) (record f { ok = Some b })
   put_ok b = record {
     process = other (codes "process") (codes "ok") (boolean b) ms refl ∙ h.process;
     limit = h.limit;
@@ -292,16 +228,7 @@ adds_member taken k d old new text mid rest front scalar put_holds ended =
 module _ (taken : Operations) (f : FlatMembers) (text mid rest : List ℕ) where
   pub adds_process : (p : ℕ) → p ≤ MAX_PROCESS → Named (codes "\"process\":") text mid
       → Scalar mid (whole_data p) rest
-      → Adds taken text f (record {
-        process = Some p;
-        event = f.event;
-        op = f.op;
-        register = f.register;
-        value = f.value;
-        from = f.from;
-        to = f.to;
-        ok = f.ok;
-      }) rest
+      → Adds taken text f (record f { process = Some p }) rest
   unfolding lex content
   adds_process p fits named scalar =
       adds_member taken (codes "process") (whole_data p) f _ text mid rest
@@ -309,16 +236,7 @@ module _ (taken : Operations) (f : FlatMembers) (text mid rest : List ℕ) where
       (λ ms h. put_process taken f ms h p fits)
 
   pub adds_event : (w : EventWord) → Named (codes "\"event\":") text mid → Scalar mid (event_data w) rest
-      → Adds taken text f (record {
-        process = f.process;
-        event = Some w;
-        op = f.op;
-        register = f.register;
-        value = f.value;
-        from = f.from;
-        to = f.to;
-        ok = f.ok;
-      }) rest
+      → Adds taken text f (record f { event = Some w }) rest
   unfolding lex content
   adds_event w named scalar =
       adds_member taken (codes "event") (event_data w) f _ text mid rest
@@ -326,16 +244,7 @@ module _ (taken : Operations) (f : FlatMembers) (text mid rest : List ℕ) where
 
   pub adds_op : (w : OpWord) → takes taken w ≡ true → Named (codes "\"op\":") text mid
       → Scalar mid (op_data w) rest
-      → Adds taken text f (record {
-        process = f.process;
-        event = f.event;
-        op = Some w;
-        register = f.register;
-        value = f.value;
-        from = f.from;
-        to = f.to;
-        ok = f.ok;
-      }) rest
+      → Adds taken text f (record f { op = Some w }) rest
   unfolding lex content
   adds_op w fits named scalar =
       adds_member taken (codes "op") (op_data w) f _ text mid rest
@@ -343,16 +252,7 @@ module _ (taken : Operations) (f : FlatMembers) (text mid rest : List ℕ) where
 
   pub adds_register : (s : Bor (List ℕ)) → Named (codes "\"register\":") text mid
       → Scalar mid (string s.now) rest
-      → Adds taken text f (record {
-        process = f.process;
-        event = f.event;
-        op = f.op;
-        register = Some s;
-        value = f.value;
-        from = f.from;
-        to = f.to;
-        ok = f.ok;
-      }) rest
+      → Adds taken text f (record f { register = Some s }) rest
   unfolding lex content
   adds_register s named scalar =
       adds_member taken (codes "register") (string s.now) f _ text mid rest
@@ -360,64 +260,28 @@ module _ (taken : Operations) (f : FlatMembers) (text mid rest : List ℕ) where
       (λ ms h. put_register taken f ms h s)
 
   pub adds_value : (v : Val) → Named (codes "\"value\":") text mid → Scalar mid (value_data v) rest
-      → Adds taken text f (record {
-        process = f.process;
-        event = f.event;
-        op = f.op;
-        register = f.register;
-        value = Some v;
-        from = f.from;
-        to = f.to;
-        ok = f.ok;
-      }) rest
+      → Adds taken text f (record f { value = Some v }) rest
   unfolding lex content
   adds_value v named scalar =
       adds_member taken (codes "value") (value_data v) f _ text mid rest
       (keyed (codes "value") _ text mid (λ behind. refl) refl named) scalar (λ ms h. put_value taken f ms h v)
 
   pub adds_from : (v : Val) → Named (codes "\"from\":") text mid → Scalar mid (value_data v) rest
-      → Adds taken text f (record {
-        process = f.process;
-        event = f.event;
-        op = f.op;
-        register = f.register;
-        value = f.value;
-        from = Some v;
-        to = f.to;
-        ok = f.ok;
-      }) rest
+      → Adds taken text f (record f { from = Some v }) rest
   unfolding lex content
   adds_from v named scalar =
       adds_member taken (codes "from") (value_data v) f _ text mid rest
       (keyed (codes "from") _ text mid (λ behind. refl) refl named) scalar (λ ms h. put_from taken f ms h v)
 
   pub adds_to : (v : Val) → Named (codes "\"to\":") text mid → Scalar mid (value_data v) rest
-      → Adds taken text f (record {
-        process = f.process;
-        event = f.event;
-        op = f.op;
-        register = f.register;
-        value = f.value;
-        from = f.from;
-        to = Some v;
-        ok = f.ok;
-      }) rest
+      → Adds taken text f (record f { to = Some v }) rest
   unfolding lex content
   adds_to v named scalar =
       adds_member taken (codes "to") (value_data v) f _ text mid rest
       (keyed (codes "to") _ text mid (λ behind. refl) refl named) scalar (λ ms h. put_to taken f ms h v)
 
   pub adds_ok : (b : Bool) → Named (codes "\"ok\":") text mid → Scalar mid (boolean b) rest
-      → Adds taken text f (record {
-        process = f.process;
-        event = f.event;
-        op = f.op;
-        register = f.register;
-        value = f.value;
-        from = f.from;
-        to = f.to;
-        ok = Some b;
-      }) rest
+      → Adds taken text f (record f { ok = Some b }) rest
   unfolding lex content
   adds_ok b named scalar =
       adds_member taken (codes "ok") (boolean b) f _ text mid rest

@@ -7,3 +7,4 @@ pub mod Weaker
 mod Moved
 pub mod Lasting
 pub mod Beginnings
+pub mod CausalLemmas

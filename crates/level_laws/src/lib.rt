@@ -6,7 +6,9 @@
 //! guarantees follow from stronger ones, and longer operations and beginnings keep what the whole keeps.
 //!
 //! Nothing runs here: each law is the contract of a function that does nothing. Read `Leads` of `specs/`
-//! first, then `Evidence` and `WriteOrders`, and then [`laws`].
+//! first, then `Evidence` and `WriteOrders`, and then [`laws`]. Of whole histories, read `Causal`, then
+//! `CausalFault` and [`causal`].
 #![tactic(auto)]
 
+pub mod causal;
 pub mod laws;

@@ -2,7 +2,7 @@
 use Rattle.std.proofs.Common.{◌≡◌, ℕ, zero, suc, ◌+◌, ◌<◌, List, [], ◌∷◌, length, map, drop, get_or, max}
 use Rattle.std.proofs.Common.{Option, unwrap_or, sym, ap, arith}
 use Rattle.reg_zones.specs.Clusters.{greatest}
-use Rattle.level_text.specs.declared.report.RegisterLevels.{RegisterLevels}
+use Rattle.report_text.specs.declared.level.report.RegisterLevels.{RegisterLevels}
 use Rattle.level_report.specs.Totals.{events_of_gap, total}
 
 pub total-drop : (count : RegisterLevels → Option ℕ) (xs : List RegisterLevels) (i : ℕ) (x : RegisterLevels)

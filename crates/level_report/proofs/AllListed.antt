@@ -17,8 +17,8 @@ use Rattle.history_model.specs.declared.operation.Operation.{Operation}
 use Rattle.history_model.proofs.Lists.{append-In, Before-first, Before-second}
 use Rattle.history_model.proofs.Recorded.{initials-In}
 use Rattle.history_model.proofs.Walking.{calls-few, drop-at, is-called, operation-call}
-use Rattle.causal_laws.proofs.Whole.{recorded-whole}
-use Rattle.session_clocks.specs.Sessions.{IsCalledInOrder}
+use Rattle.level_laws.proofs.CausalLemmas.Whole.{recorded-whole}
+use Rattle.causal_order.specs.SessionClocks.Sessions.{IsCalledInOrder}
 use Rattle.level_report.specs.Shown.{AreAllReady}
 
 -- ---- one by one

@@ -22,13 +22,13 @@ use Rattle.reg_zones.proofs.Ends.{first_reply-le, last_call-le}
 use Rattle.level_laws.specs.Evidence.Evidence.{cycle}
 use Rattle.level_laws.specs.Leads.{LeadsTo}
 use Rattle.level_laws.proofs.Refuted.{clean, refuted}
-use Rattle.order_graph.proofs.Places.{place-same}
-use Rattle.reg_clusters.specs.Places.{IsByCall}
-use Rattle.reg_clusters.specs.Table.{IsClusterTable, IsEnds}
-use Rattle.reg_clusters.specs.declared.table.ClusterEnds.{ClusterEnds}
-use Rattle.reg_clusters.proofs.Places.{at-In}
-use Rattle.reg_gap.proofs.Passing.{get-is, get-of}
-use Rattle.reg_clusters.proofs.Pushes.{get-below, get-push_cases, get-read, length-push}
+use Rattle.reg_levels.proofs.OrderGraphLemmas.Places.{place-same}
+use Rattle.reg_levels.specs.Clusters.Places.{IsByCall}
+use Rattle.reg_levels.specs.Clusters.Table.{IsClusterTable, IsEnds}
+use Rattle.reg_levels.specs.declared.clusters.table.ClusterEnds.{ClusterEnds}
+use Rattle.reg_levels.proofs.ClusterLemmas.Places.{at-In}
+use Rattle.reg_levels.proofs.GapLemmas.Passing.{get-is, get-of}
+use Rattle.reg_levels.proofs.ClusterLemmas.Pushes.{get-below, get-push_cases, get-read, length-push}
 use Rattle.reg_levels.specs.Decisions.{write_of_cluster}
 use Rattle.reg_levels.proofs.Numbering.{same_cluster}
 use Rattle.reg_levels.proofs.Ordering.{at-write, Before-filter_map, In-filter_map, filter_map-Before}

@@ -8,17 +8,17 @@ use Rattle.std.proofs.lemmas.List.{length-append, map-append}
 use Rattle.std.proofs.lemmas.Option.{slice_get_within}
 use Rattle.history_model.proofs.Lists.{slice_get-push, slice_get-push_other}
 use Rattle.history_model.specs.declared.operation.Operation.{Operation}
-use Rattle.causal_laws.specs.Fault.{CausalFault, Reason, Step, first_of}
-use Rattle.causal_laws.specs.Fault.CausalFault.{unwritten, cycle}
-use Rattle.causal_laws.specs.Fault.Reason.{process, read, initial, hidden}
+use Rattle.level_laws.specs.CausalFault.{CausalFault, Reason, Step, first_of}
+use Rattle.level_laws.specs.CausalFault.CausalFault.{unwritten, cycle}
+use Rattle.level_laws.specs.CausalFault.Reason.{process, read, initial, hidden}
 use Rattle.causal_order.specs.Decisions.{AreAt, AreStepsOf, IsCycleOf, IsKnew, IsShown, IsWhyOf}
 use Rattle.causal_order.specs.declared.decision.CausalFault.TheVariants as Fault
 use Rattle.causal_order.specs.declared.decision.CausalStep.{CausalStep}
 use Rattle.causal_order.specs.declared.decision.Why.{Why}
 use Rattle.causal_order.specs.declared.decision.Why.TheVariants.{Process, Read, Initial, Hidden}
 use Rattle.reg_levels.specs.Decisions.{operations_of_places}
-use Rattle.level_text.specs.declared.causal.CausalFaultLines.TheVariants as Lines
-use Rattle.level_text.specs.declared.causal.StepLines.{StepLines}
+use Rattle.report_text.specs.declared.level.causal.CausalFaultLines.TheVariants as Lines
+use Rattle.report_text.specs.declared.level.causal.StepLines.{StepLines}
 use Rattle.level_report.specs.Causal.{AreStepsShown, IsCycleShown, IsReasonShown, IsWayShown}
 use Rattle.level_report.specs.Causal.{ShowsCausalFault}
 use Rattle.level_report.specs.Lines.{line_of}

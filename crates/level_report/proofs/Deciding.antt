@@ -14,15 +14,15 @@ use Rattle.level_laws.specs.Evidence.Evidence.{unwritten, early, cycle}
 use Rattle.level_laws.proofs.Decided.{decided}
 use Rattle.level_laws.proofs.Refuted.{refuted}
 use Rattle.level_laws.proofs.Weaker.{session-sequential}
-use Rattle.reg_clusters.specs.Places.{IsAt}
-use Rattle.reg_clusters.specs.declared.table.ClusterEnds.{ClusterEnds}
+use Rattle.reg_levels.specs.Clusters.Places.{IsAt}
+use Rattle.reg_levels.specs.declared.clusters.table.ClusterEnds.{ClusterEnds}
 use Rattle.reg_levels.specs.Decisions.{AreStepsOf, IsFaultOf, writes_of}
 use Rattle.reg_levels.specs.declared.decision.LevelFault.TheVariants as fault
 use Rattle.reg_levels.specs.declared.decision.Step.{Step}
-use Rattle.level_text.specs.declared.report.FaultLines.{FaultLines}
-use Rattle.level_text.specs.declared.report.FaultLines.TheVariants.{Unwritten, Cycle}
-use Rattle.level_text.specs.declared.report.LevelName.{LevelName}
-use Rattle.level_text.specs.declared.report.LevelName.TheVariants as level
+use Rattle.report_text.specs.declared.level.report.FaultLines.{FaultLines}
+use Rattle.report_text.specs.declared.level.report.FaultLines.TheVariants.{Unwritten, Cycle}
+use Rattle.report_text.specs.declared.level.report.LevelName.{LevelName}
+use Rattle.report_text.specs.declared.level.report.LevelName.TheVariants as level
 use Rattle.level_report.specs.Guarantees.{AreGuarantees, IsFaultShown, IsGuaranteeOf, IsVerdict}
 use Rattle.level_report.specs.Guarantees.{or_else, ShowsEvidence, step_lines, strongest, write_line}
 use Rattle.level_report.specs.Lines.{line_of, step_of}

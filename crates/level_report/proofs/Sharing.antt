@@ -5,8 +5,8 @@ use Rattle.std.proofs.lemmas.List.{length_push}
 use Rattle.std.specs.List.{AllZip}
 use Rattle.history_model.specs.History.{History}
 use Rattle.history_model.specs.declared.ids.RegId.{RegId}
-use Rattle.level_text.specs.declared.report.RegisterLevels.{RegisterLevels}
-use Rattle.reg_clusters.proofs.Pushes.{get-push_cases}
+use Rattle.report_text.specs.declared.level.report.RegisterLevels.{RegisterLevels}
+use Rattle.reg_levels.proofs.ClusterLemmas.Pushes.{get-push_cases}
 use Rattle.level_report.specs.Meaning.{IsRegisterLine}
 use Rattle.level_report.specs.Registers.{AreFirstLines, AreLines, AreNumbers}
 use Rattle.level_report.specs.declared.settings.Asked.{Asked}

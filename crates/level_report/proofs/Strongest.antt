@@ -3,10 +3,10 @@ use Rattle.std.proofs.Common.{◌≡◌, ◌∙◌, List, Option, Some, None, Bo
 use Rattle.std.specs.Prelude.{IfSome}
 use Rattle.std.proofs.lemmas.Option.{same_Some}
 use Rattle.history_model.specs.declared.operation.Operation.{Operation}
-use Rattle.reg_clusters.specs.declared.table.ClusterEnds.{ClusterEnds}
-use Rattle.level_text.specs.declared.report.LevelName.{LevelName}
-use Rattle.level_text.specs.declared.report.LevelName.TheVariants as level
-use Rattle.level_text.specs.declared.report.OrderLines.{OrderLines}
+use Rattle.reg_levels.specs.declared.clusters.table.ClusterEnds.{ClusterEnds}
+use Rattle.report_text.specs.declared.level.report.LevelName.{LevelName}
+use Rattle.report_text.specs.declared.level.report.LevelName.TheVariants as level
+use Rattle.report_text.specs.declared.level.report.OrderLines.{OrderLines}
 use Rattle.level_report.specs.Guarantees.{IsGuaranteeOf, IsOrderFor, KeepsLevel, or_else}
 use Rattle.level_report.specs.Ordered.{IsOrdered, IsOrderedBy}
 use Rattle.level_report.specs.declared.guarantees.Ordered.{Ordered}

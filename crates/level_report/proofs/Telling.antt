@@ -21,8 +21,8 @@ use Rattle.history_model.proofs.Named.{operation-has-register}
 use Rattle.history_model.proofs.Placed.{history-timed}
 use Rattle.history_model.proofs.Recorded.{accepted-history, of_register-In}
 use Rattle.history_model.specs.Lists.{In}
-use Rattle.causal_laws.proofs.FromSequential.{atomic-causal}
-use Rattle.causal_laws.proofs.Whole.{recorded-whole}
+use Rattle.level_laws.proofs.CausalLemmas.FromSequential.{atomic-causal}
+use Rattle.level_laws.proofs.CausalLemmas.Whole.{recorded-whole}
 use Rattle.level_report.specs.Registers.{AreLines}
 use Rattle.reg_intake.specs.Arena.{IsArenaOf}
 use Rattle.reg_intake.specs.declared.refusal.Refusal.{Refusal}
@@ -30,37 +30,37 @@ use Rattle.reg_intake.specs.declared.refusal.Refusal.TheVariants.{TooLong}
 use Rattle.level_laws.specs.Evidence.Evidence.{unwritten, early}
 use Rattle.level_laws.proofs.Refuted.{refuted}
 use Rattle.level_laws.proofs.Weaker.{atomic-within, session-monotonic, session-own_writes}
-use Rattle.reg_counts.specs.Staleness.{IsRegularForAll, Wrote}
-use Rattle.reg_clusters.specs.Clean.{IsClean}
-use Rattle.reg_counts.specs.Listing.{RepliesFirst}
-use Rattle.reg_counts.specs.Measured.{IsMeasured}
-use Rattle.reg_counts.specs.declared.measure.Staleness.{Staleness}
-use Rattle.reg_counts.proofs.Zero.{old-zero}
-use Rattle.reg_gap.specs.Gaps.{IsGapOf}
-use Rattle.reg_gap.specs.declared.gap.Gap.{Gap}
-use Rattle.level_text.specs.declared.report.FaultLines.{FaultLines}
-use Rattle.level_text.specs.declared.report.Freshness.{Freshness}
-use Rattle.level_text.specs.declared.report.KeptGuarantees.{KeptGuarantees}
-use Rattle.level_text.specs.declared.report.LevelName.{LevelName}
-use Rattle.level_text.specs.declared.report.LevelName.TheVariants.{Atomic, Regular, Session}
-use Rattle.level_text.specs.declared.report.LevelName.TheVariants.{OwnWrites, Monotonic, Sequential}
-use Rattle.level_text.specs.declared.report.LevelsReport.{LevelsReport}
-use Rattle.level_text.specs.declared.report.RegisterLevels.{RegisterLevels}
+use Rattle.reg_levels.specs.Counts.Staleness.{IsRegularForAll, Wrote}
+use Rattle.reg_levels.specs.Clusters.Clean.{IsClean}
+use Rattle.reg_levels.specs.Counts.Listing.{RepliesFirst}
+use Rattle.reg_levels.specs.Counts.Measured.{IsMeasured}
+use Rattle.reg_levels.specs.declared.counts.measure.Staleness.{Staleness}
+use Rattle.reg_levels.proofs.CountLemmas.Zero.{old-zero}
+use Rattle.reg_levels.specs.Gap.Gaps.{IsGapOf}
+use Rattle.reg_levels.specs.declared.gap.answer.Gap.{Gap}
+use Rattle.report_text.specs.declared.level.report.FaultLines.{FaultLines}
+use Rattle.report_text.specs.declared.level.report.Freshness.{Freshness}
+use Rattle.report_text.specs.declared.level.report.KeptGuarantees.{KeptGuarantees}
+use Rattle.report_text.specs.declared.level.report.LevelName.{LevelName}
+use Rattle.report_text.specs.declared.level.report.LevelName.TheVariants.{Atomic, Regular, Session}
+use Rattle.report_text.specs.declared.level.report.LevelName.TheVariants.{OwnWrites, Monotonic, Sequential}
+use Rattle.report_text.specs.declared.level.report.LevelsReport.{LevelsReport}
+use Rattle.report_text.specs.declared.level.report.RegisterLevels.{RegisterLevels}
 use Rattle.level_report.specs.Answer.{IsAnswer, IsAnswerText, IsAnswerToLines, IsOutcome, IsOutcomeOf}
 use Rattle.level_report.specs.Answer.{IsAnswerOf}
 use Rattle.level_report.specs.declared.outcome.Outcome.{Outcome}
-use Rattle.level_text.specs.declared.report.Totals.{Totals}
+use Rattle.report_text.specs.declared.level.report.Totals.{Totals}
 use Rattle.level_report.specs.Freshness.{IsFreshness}
 use Rattle.level_report.specs.Guarantees.{IsSession, IsVerdict}
 use Rattle.level_report.specs.Causal.{IsCausalAnswer}
 use Rattle.level_report.specs.Meaning.{EachHolds, Holds, IsRegisterLine, IsReport}
-use Rattle.causal_laws.specs.Causal.{IsCausal}
+use Rattle.level_laws.specs.Causal.{IsCausal}
 use Rattle.causal_order.specs.Decisions.{IsBeyond}
-use Rattle.level_text.specs.declared.causal.CausalLines.{CausalLines}
-use Rattle.level_text.specs.declared.causal.CausalVerdict.{CausalVerdict}
-use Rattle.level_text.specs.declared.causal.CausalVerdict.TheVariants.{Yes, No, Unknown}
-use Rattle.level_text.specs.declared.report.Required.{Required}
-use Rattle.level_text.specs.declared.report.Required.TheVariants.{Each, Causal}
+use Rattle.report_text.specs.declared.level.causal.CausalLines.{CausalLines}
+use Rattle.report_text.specs.declared.level.causal.CausalVerdict.{CausalVerdict}
+use Rattle.report_text.specs.declared.level.causal.CausalVerdict.TheVariants.{Yes, No, Unknown}
+use Rattle.report_text.specs.declared.level.report.Required.{Required}
+use Rattle.report_text.specs.declared.level.report.Required.TheVariants.{Each, Causal}
 use Rattle.level_report.specs.Totals.{all_say, AreTotals, half_of, outcome_of_level, outcome_of_verdict}
 use Rattle.level_report.specs.Totals.{outcome_said, says, totals_say}
 use Rattle.level_report.specs.declared.settings.Asked.{Asked}

@@ -9,10 +9,10 @@ use Rattle.causal_order.specs.Decisions.{IsBeyond}
 use Rattle.reg_intake.specs.declared.refusal.Refusal.{Refusal}
 use Rattle.reg_intake.specs.declared.refusal.Refusal.TheVariants.{At, TooLong, InputFailed}
 use Rattle.reg_intake.specs.declared.refusal.Refusal.TheVariants.{NoRoom, OutputFailed}
-use Rattle.level_text.specs.Text.{report_text}
-use Rattle.level_text.specs.declared.report.Required.{Required}
-use Rattle.level_text.specs.declared.report.Required.TheVariants.{Causal}
-use Rattle.level_text.specs.declared.report.LevelsReport.{LevelsReport}
+use Rattle.report_text.specs.Level.Text.{report_text}
+use Rattle.report_text.specs.declared.level.report.Required.{Required}
+use Rattle.report_text.specs.declared.level.report.Required.TheVariants.{Causal}
+use Rattle.report_text.specs.declared.level.report.LevelsReport.{LevelsReport}
 use Rattle.level_report.specs.Meaning.{IsReport, KeepsRequired}
 use Rattle.level_report.specs.declared.outcome.Outcome.{Outcome}
 use Rattle.level_report.specs.declared.outcome.Outcome.TheVariants.{Kept, Broken, Unknown}

@@ -2,7 +2,7 @@
 use Rattle.std.specs.Prelude.{◌≡◌, ◌+◌, List, count_by, not}
 use Rattle.history_model.specs.Operations.{is_write}
 use Rattle.history_model.specs.declared.operation.Operation.{Operation}
-use Rattle.level_text.specs.declared.report.CalledOperations.{CalledOperations}
+use Rattle.report_text.specs.declared.level.report.CalledOperations.{CalledOperations}
 
 -- how many operations there are of each kind; the initial write, which nobody called, isn't counted
 pub record AreCalled (ops : List Operation) (c : CalledOperations) : Type 0 where

@@ -3,18 +3,18 @@ use Rattle.std.specs.Global.{Global}
 use Rattle.std.specs.Prelude.{◌≡◌, ◌⊎◌, ℕ, Bool, true, false, List, [], ◌∷◌, ◌++◌, map, Option, None, Some}
 use Rattle.std.specs.Prelude.{Vec}
 use Rattle.history_model.specs.declared.operation.Operation.{Operation}
-use Rattle.causal_laws.specs.Causal.{IsCausal, IsCausalOrder, IsWay}
-use Rattle.causal_laws.specs.Fault.{CausalFault, IsCausalFault, Reason, Step, first_of}
-use Rattle.causal_laws.specs.Fault.CausalFault.{unwritten, cycle}
-use Rattle.causal_laws.specs.Fault.Reason.{process, read, initial, hidden}
+use Rattle.level_laws.specs.Causal.{IsCausal, IsCausalOrder, IsWay}
+use Rattle.level_laws.specs.CausalFault.{CausalFault, IsCausalFault, Reason, Step, first_of}
+use Rattle.level_laws.specs.CausalFault.CausalFault.{unwritten, cycle}
+use Rattle.level_laws.specs.CausalFault.Reason.{process, read, initial, hidden}
 use Rattle.causal_order.specs.Decisions.{IsBeyond}
-use Rattle.level_text.specs.declared.causal.CausalFaultLines.{CausalFaultLines}
-use Rattle.level_text.specs.declared.causal.CausalFaultLines.TheVariants.{Unwritten, Cycle}
-use Rattle.level_text.specs.declared.causal.CausalLines.{CausalLines}
-use Rattle.level_text.specs.declared.causal.CausalVerdict.{CausalVerdict}
-use Rattle.level_text.specs.declared.causal.CausalVerdict.TheVariants.{Yes, No, Unknown}
-use Rattle.level_text.specs.declared.causal.StepLines.{StepLines}
-use Rattle.level_text.specs.declared.causal.StepReason.TheVariants as shown
+use Rattle.report_text.specs.declared.level.causal.CausalFaultLines.{CausalFaultLines}
+use Rattle.report_text.specs.declared.level.causal.CausalFaultLines.TheVariants.{Unwritten, Cycle}
+use Rattle.report_text.specs.declared.level.causal.CausalLines.{CausalLines}
+use Rattle.report_text.specs.declared.level.causal.CausalVerdict.{CausalVerdict}
+use Rattle.report_text.specs.declared.level.causal.CausalVerdict.TheVariants.{Yes, No, Unknown}
+use Rattle.report_text.specs.declared.level.causal.StepLines.{StepLines}
+use Rattle.report_text.specs.declared.level.causal.StepReason.TheVariants as shown
 use Rattle.level_report.specs.Guarantees.{lines_of}
 
 -- ---- why it isn't

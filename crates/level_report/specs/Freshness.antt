@@ -4,15 +4,15 @@ use Rattle.std.specs.Prelude.{◌≡◌, ◌⊎◌, ◌↔◌, ℕ, Bool, true, 
 use Rattle.std.specs.Prelude.{IsTrue, is_none, map, option_map}
 use Rattle.history_model.specs.declared.operation.Operation.{Operation}
 use Rattle.reg_zones.specs.Faults.{IsFirstEarly, IsFirstUnwritten}
-use Rattle.reg_clusters.specs.Clean.{IsClean}
-use Rattle.reg_counts.specs.Listing.{AreStaleReads}
-use Rattle.reg_counts.specs.Measured.{IsMeasured}
-use Rattle.reg_counts.specs.declared.measure.Staleness.{Staleness}
-use Rattle.reg_counts.specs.declared.old_read.OldRead.{OldRead}
-use Rattle.reg_gap.specs.Gaps.{IsGapOf}
-use Rattle.reg_gap.specs.declared.gap.Gap.{Gap}
-use Rattle.level_text.specs.declared.report.EarlyRead.{EarlyRead}
-use Rattle.level_text.specs.declared.report.Freshness.{Freshness}
+use Rattle.reg_levels.specs.Clusters.Clean.{IsClean}
+use Rattle.reg_levels.specs.Counts.Listing.{AreStaleReads}
+use Rattle.reg_levels.specs.Counts.Measured.{IsMeasured}
+use Rattle.reg_levels.specs.declared.counts.measure.Staleness.{Staleness}
+use Rattle.reg_levels.specs.declared.counts.old_read.OldRead.{OldRead}
+use Rattle.reg_levels.specs.Gap.Gaps.{IsGapOf}
+use Rattle.reg_levels.specs.declared.gap.answer.Gap.{Gap}
+use Rattle.report_text.specs.declared.level.report.EarlyRead.{EarlyRead}
+use Rattle.report_text.specs.declared.level.report.Freshness.{Freshness}
 use Rattle.level_report.specs.Lines.{gap_of_lines, line_of, missed_of, stale_pair, went_back_of}
 
 -- all stale reads, each with the write that it missed

@@ -9,12 +9,12 @@ use Rattle.history_model.specs.declared.guarantee.Guarantee.TheVariants as guara
 use Rattle.history_model.specs.declared.operation.Operation.{Operation}
 use Rattle.level_laws.specs.Evidence.{Evidence, IsLevelFault, Link}
 use Rattle.level_laws.specs.Evidence.Evidence.{unwritten, early, cycle}
-use Rattle.level_text.specs.declared.report.FaultLines.{FaultLines}
-use Rattle.level_text.specs.declared.report.FaultLines.TheVariants.{Unwritten, Early, Cycle}
-use Rattle.level_text.specs.declared.report.KeptGuarantees.{KeptGuarantees}
-use Rattle.level_text.specs.declared.report.LevelName.{LevelName}
-use Rattle.level_text.specs.declared.report.LevelName.TheVariants as level
-use Rattle.level_text.specs.declared.report.OrderLines.{OrderLines}
+use Rattle.report_text.specs.declared.level.report.FaultLines.{FaultLines}
+use Rattle.report_text.specs.declared.level.report.FaultLines.TheVariants.{Unwritten, Early, Cycle}
+use Rattle.report_text.specs.declared.level.report.KeptGuarantees.{KeptGuarantees}
+use Rattle.report_text.specs.declared.level.report.LevelName.{LevelName}
+use Rattle.report_text.specs.declared.level.report.LevelName.TheVariants as level
+use Rattle.report_text.specs.declared.level.report.OrderLines.{OrderLines}
 
 -- ---- why a guarantee wasn't kept
 

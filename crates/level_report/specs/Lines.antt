@@ -1,12 +1,12 @@
 -- Operations by the lines of their calls.
 use Rattle.std.specs.Prelude.{ℕ, List, slice_get, unwrap_or, option_map}
 use Rattle.history_model.specs.declared.operation.Operation.{Operation}
-use Rattle.reg_counts.specs.declared.old_read.OldRead.{OldRead}
-use Rattle.reg_gap.specs.declared.gap.Gap.{Gap}
+use Rattle.reg_levels.specs.declared.counts.old_read.OldRead.{OldRead}
+use Rattle.reg_levels.specs.declared.gap.answer.Gap.{Gap}
 use Rattle.reg_levels.specs.declared.decision.Step.{Step}
-use Rattle.level_text.specs.declared.report.GapLines.{GapLines}
-use Rattle.level_text.specs.declared.report.MissedWrite.{MissedWrite}
-use Rattle.level_text.specs.declared.report.WentBack.{WentBack}
+use Rattle.report_text.specs.declared.level.report.GapLines.{GapLines}
+use Rattle.report_text.specs.declared.level.report.MissedWrite.{MissedWrite}
+use Rattle.report_text.specs.declared.level.report.WentBack.{WentBack}
 
 -- the line of the operation at a place; the initial write has line 0
 abbrev pub line_of : List Operation → ℕ → ℕ

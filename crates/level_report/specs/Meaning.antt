@@ -2,18 +2,18 @@
 use Rattle.std.specs.Prelude.{◌≡◌, ◌<◌, ℕ, List, length, slice_get, Some}
 use Rattle.history_model.specs.History.{History}
 use Rattle.history_model.specs.Legal.{HasOrderFor, IsAtomic}
-use Rattle.causal_laws.specs.Causal.{IsCausal}
+use Rattle.level_laws.specs.Causal.{IsCausal}
 use Rattle.history_model.specs.Operations.{operations, register_of}
 use Rattle.history_model.specs.declared.guarantee.Guarantee.TheVariants as guarantee
 use Rattle.history_model.specs.declared.operation.Operation.{Operation}
-use Rattle.reg_counts.specs.Staleness.{IsRegularForAll}
-use Rattle.level_text.specs.declared.report.LevelName.{LevelName}
-use Rattle.level_text.specs.declared.report.LevelName.TheVariants.{Atomic, Regular, Session}
-use Rattle.level_text.specs.declared.report.LevelName.TheVariants.{OwnWrites, Monotonic, Sequential}
-use Rattle.level_text.specs.declared.report.LevelsReport.{LevelsReport}
-use Rattle.level_text.specs.declared.report.RegisterLevels.{RegisterLevels}
-use Rattle.level_text.specs.declared.report.Required.{Required}
-use Rattle.level_text.specs.declared.report.Required.TheVariants.{Each, Causal}
+use Rattle.reg_levels.specs.Counts.Staleness.{IsRegularForAll}
+use Rattle.report_text.specs.declared.level.report.LevelName.{LevelName}
+use Rattle.report_text.specs.declared.level.report.LevelName.TheVariants.{Atomic, Regular, Session}
+use Rattle.report_text.specs.declared.level.report.LevelName.TheVariants.{OwnWrites, Monotonic, Sequential}
+use Rattle.report_text.specs.declared.level.report.LevelsReport.{LevelsReport}
+use Rattle.report_text.specs.declared.level.report.RegisterLevels.{RegisterLevels}
+use Rattle.report_text.specs.declared.level.report.Required.{Required}
+use Rattle.report_text.specs.declared.level.report.Required.TheVariants.{Each, Causal}
 use Rattle.level_report.specs.Called.{AreCalled}
 use Rattle.level_report.specs.Causal.{IsCausalSaid}
 use Rattle.level_report.specs.Freshness.{IsFreshness}

@@ -6,11 +6,11 @@ use Rattle.history_model.specs.declared.guarantee.Guarantee.{Guarantee}
 use Rattle.history_model.specs.declared.operation.Operation.{Operation}
 use Rattle.level_laws.specs.Leads.{IsCleanFor}
 use Rattle.level_laws.specs.WriteOrders.{IsWriteOrder}
-use Rattle.reg_clusters.specs.declared.table.ClusterEnds.{ClusterEnds}
+use Rattle.reg_levels.specs.declared.clusters.table.ClusterEnds.{ClusterEnds}
 use Rattle.reg_levels.specs.Decisions.{writes_of}
-use Rattle.level_text.specs.declared.report.FaultLines.TheVariants.{Unwritten}
-use Rattle.level_text.specs.declared.report.KeptGuarantees.{KeptGuarantees}
-use Rattle.level_text.specs.declared.report.LevelName.{LevelName}
+use Rattle.report_text.specs.declared.level.report.FaultLines.TheVariants.{Unwritten}
+use Rattle.report_text.specs.declared.level.report.KeptGuarantees.{KeptGuarantees}
+use Rattle.report_text.specs.declared.level.report.LevelName.{LevelName}
 use Rattle.level_report.specs.Guarantees.{IsGuaranteeOf, IsVerdict}
 use Rattle.level_report.specs.declared.guarantees.Found.{Found}
 use Rattle.level_report.specs.declared.guarantees.Ordered.{Ordered}

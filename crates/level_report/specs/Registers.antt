@@ -2,7 +2,7 @@
 use Rattle.std.specs.Prelude.{◌≡◌, ℕ, List, length, slice_get, Some}
 use Rattle.history_model.specs.History.{History}
 use Rattle.history_model.specs.declared.ids.RegId.{RegId}
-use Rattle.level_text.specs.declared.report.RegisterLevels.{RegisterLevels}
+use Rattle.report_text.specs.declared.level.report.RegisterLevels.{RegisterLevels}
 use Rattle.level_report.specs.Meaning.{IsRegisterLine}
 use Rattle.level_report.specs.declared.settings.Asked.{Asked}
 

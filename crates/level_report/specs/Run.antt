@@ -6,7 +6,7 @@ use Rattle.byte_ends.specs.Ends.{AppendsBeginning}
 use Rattle.reg_intake.specs.declared.refusal.Refusal.{Refusal}
 use Rattle.reg_intake.specs.declared.refusal.Refusal.TheVariants.{At, TooLong, InputFailed}
 use Rattle.reg_intake.specs.declared.refusal.Refusal.TheVariants.{NoRoom, OutputFailed}
-use Rattle.level_text.specs.declared.report.Required.{Required}
+use Rattle.report_text.specs.declared.level.report.Required.{Required}
 use Rattle.level_report.specs.Answer.{IsAnswer, IsAnswerText, IsOutcome}
 use Rattle.level_report.specs.declared.outcome.Outcome.{Outcome}
 use Rattle.level_report.specs.declared.settings.Asked.{Asked}

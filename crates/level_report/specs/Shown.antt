@@ -4,9 +4,9 @@ use Rattle.history_model.specs.Acts.{plain_act}
 use Rattle.history_model.specs.Operations.{is_write, IsHistory}
 use Rattle.history_model.specs.declared.op.Op.{Op}
 use Rattle.history_model.specs.declared.operation.Operation.{Operation}
-use Rattle.causal_laws.specs.Causal.{IsWhole}
-use Rattle.session_clocks.specs.Sessions.{IsCalledInOrder}
-use Rattle.reg_clusters.specs.Places.{AreFew, IsByCall}
+use Rattle.level_laws.specs.Causal.{IsWhole}
+use Rattle.causal_order.specs.SessionClocks.Sessions.{IsCalledInOrder}
+use Rattle.reg_levels.specs.Clusters.Places.{AreFew, IsByCall}
 
 -- the operation that is shown; a missing reply has the time `end`
 abbrev pub operation_shown : ℕ → Op → Operation

@@ -5,8 +5,8 @@ use Rattle.history_model.specs.declared.operation.Operation.{Operation}
 use Rattle.causal_order.specs.declared.decision.CausalStep.{CausalStep}
 use Rattle.causal_order.specs.declared.decision.Why.{Why}
 use Rattle.causal_order.specs.declared.decision.Why.TheVariants.{Process, Read, Initial, Hidden}
-use Rattle.level_text.specs.declared.causal.StepLines.{StepLines}
-use Rattle.level_text.specs.declared.causal.StepReason.TheVariants as shown
+use Rattle.report_text.specs.declared.level.causal.StepLines.{StepLines}
+use Rattle.report_text.specs.declared.level.causal.StepReason.TheVariants as shown
 use Rattle.level_report.specs.Lines.{line_of}
 
 abbrev pub lines_at : List Operation → List ℕ → List ℕ

@@ -3,16 +3,16 @@ use Rattle.std.specs.Prelude.{◌≡◌, ◌+◌, ◌&&◌, ℕ, Bool, true, Lis
 use Rattle.std.specs.Prelude.{not, cond, nat_lt, is_none, unwrap_or, option_map, Option, Some, None}
 use Rattle.std.specs.List.{list_all}
 use Rattle.reg_zones.specs.Clusters.{greatest}
-use Rattle.level_text.specs.declared.causal.CausalVerdict.{CausalVerdict}
-use Rattle.level_text.specs.declared.causal.CausalVerdict.TheVariants.{Yes, No, Unknown}
-use Rattle.level_text.specs.declared.report.GapLines.{GapLines}
-use Rattle.level_text.specs.declared.report.LevelName.{LevelName}
-use Rattle.level_text.specs.declared.report.LevelName.TheVariants.{Atomic, Regular, Session}
-use Rattle.level_text.specs.declared.report.LevelName.TheVariants.{OwnWrites, Monotonic, Sequential}
-use Rattle.level_text.specs.declared.report.RegisterLevels.{RegisterLevels}
-use Rattle.level_text.specs.declared.report.Required.{Required}
-use Rattle.level_text.specs.declared.report.Required.TheVariants.{Each, Causal}
-use Rattle.level_text.specs.declared.report.Totals.{Totals}
+use Rattle.report_text.specs.declared.level.causal.CausalVerdict.{CausalVerdict}
+use Rattle.report_text.specs.declared.level.causal.CausalVerdict.TheVariants.{Yes, No, Unknown}
+use Rattle.report_text.specs.declared.level.report.GapLines.{GapLines}
+use Rattle.report_text.specs.declared.level.report.LevelName.{LevelName}
+use Rattle.report_text.specs.declared.level.report.LevelName.TheVariants.{Atomic, Regular, Session}
+use Rattle.report_text.specs.declared.level.report.LevelName.TheVariants.{OwnWrites, Monotonic, Sequential}
+use Rattle.report_text.specs.declared.level.report.RegisterLevels.{RegisterLevels}
+use Rattle.report_text.specs.declared.level.report.Required.{Required}
+use Rattle.report_text.specs.declared.level.report.Required.TheVariants.{Each, Causal}
+use Rattle.report_text.specs.declared.level.report.Totals.{Totals}
 use Rattle.level_report.specs.declared.outcome.Outcome.{Outcome}
 use Rattle.level_report.specs.declared.outcome.Outcome.TheVariants as outcome
 use Rattle.level_report.specs.declared.totals.Count.{Count}

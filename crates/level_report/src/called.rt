@@ -4,7 +4,7 @@ ghost use Rattle.history_model.specs.Operations.{is_write};
 ghost use Rattle.level_report.specs.Called.{AreCalled};
 
 use history_model::Operation;
-use level_text::CalledOperations;
+use report_text::level::CalledOperations;
 
 /// How many operations of each kind a register has, without its initial write.
 pub(crate) fn called(ops: &[Operation]) -> CalledOperations

@@ -2,10 +2,10 @@
 ghost use Rattle.std.specs.Prelude.{◌≡◌, cond, true, IfOk, List};
 ghost use Rattle.history_model.specs.Operations.{operations};
 ghost use Rattle.history_model.specs.declared.operation.Operation.{Operation as AnOperation};
-ghost use Rattle.causal_laws.specs.Causal.{IsCausal, IsCausalOrder};
-ghost use Rattle.causal_laws.specs.Fault.{CausalFault as AFault};
+ghost use Rattle.level_laws.specs.Causal.{IsCausal, IsCausalOrder};
+ghost use Rattle.level_laws.specs.CausalFault.{CausalFault as AFault};
 ghost use Rattle.causal_order.specs.Decisions.{AreAt, IsShown};
-ghost use Rattle.level_text.specs.declared.causal.CausalVerdict.TheVariants.{Yes, Unknown};
+ghost use Rattle.report_text.specs.declared.level.causal.CausalVerdict.TheVariants.{Yes, Unknown};
 ghost use Rattle.level_report.specs.Causal.{IsCausalOrderShown, IsCausalSaid, ShowsCausalFault};
 ghost use Rattle.level_report.specs.Shown.{AreAllReady};
 ghost use Rattle.level_report.specs.Steps.{AreLinesIf, AreStepLines, IsStepLines};
@@ -16,8 +16,8 @@ use crate::operations::all_operations;
 use crate::order::called_lines;
 use causal_order::{CausalFault, CausalStep, Decision, Why, decide};
 use history_model::Operation;
-use level_text::{CausalFaultLines, CausalLines, CausalVerdict, StepLines, StepReason};
 use reg_arena::Arena;
+use report_text::level::{CausalFaultLines, CausalLines, CausalVerdict, StepLines, StepReason};
 use std::alloc::{AllocError, Global};
 
 /// Operations that are given by their places, by lines.

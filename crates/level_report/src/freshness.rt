@@ -1,18 +1,18 @@
 //! The age of a register's values, by lines.
 ghost use Rattle.std.specs.Prelude.{◌≡◌, None, Some, IfOk};
 ghost use Rattle.history_model.specs.Operations.{IsHistory};
-ghost use Rattle.reg_clusters.specs.Clean.{IsClean};
-ghost use Rattle.reg_clusters.specs.Places.{AreFew, IsByCall};
-ghost use Rattle.reg_clusters.specs.Table.{IsClusterTable};
+ghost use Rattle.reg_levels.specs.Clusters.Clean.{IsClean};
+ghost use Rattle.reg_levels.specs.Clusters.Places.{AreFew, IsByCall};
+ghost use Rattle.reg_levels.specs.Clusters.Table.{IsClusterTable};
 ghost use Rattle.level_report.specs.Freshness.{AreStalePairs, AreStaleShown, IsCleanShown};
 ghost use Rattle.level_report.specs.Freshness.{without_counts as no_counts};
 
 use crate::lines::{gap_if, line_if, missed_if, stale_pairs, went_back_if};
 use history_model::Operation;
-use level_text::{EarlyRead, Freshness};
-use reg_clusters::ClusterTable;
-use reg_counts::{measured, stale_reads};
-use reg_gap::gap_of;
+use reg_levels::clusters::ClusterTable;
+use reg_levels::counts::{measured, stale_reads};
+use reg_levels::gap::gap_of;
+use report_text::level::{EarlyRead, Freshness};
 use std::alloc::{AllocError, Global};
 
 /// Of a clean register: the counts, the first of each, and the gap.

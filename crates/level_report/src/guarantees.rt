@@ -3,8 +3,8 @@ ghost use Rattle.std.specs.Prelude.{◌≡◌, map, cond, true, false, None, IfO
 ghost use Rattle.history_model.specs.Legal.{IsAtomic};
 ghost use Rattle.history_model.specs.Operations.{IsHistory};
 ghost use Rattle.level_laws.specs.Evidence.{Evidence};
-ghost use Rattle.reg_clusters.specs.Places.{AreFew, IsByCall};
-ghost use Rattle.reg_clusters.specs.Table.{IsClusterTable};
+ghost use Rattle.reg_levels.specs.Clusters.Places.{AreFew, IsByCall};
+ghost use Rattle.reg_levels.specs.Clusters.Table.{IsClusterTable};
 ghost use Rattle.reg_levels.specs.Decisions.{IsFaultOf};
 ghost use Rattle.reg_levels.specs.Levels.{IsOfSessions};
 ghost use Rattle.level_report.specs.Guarantees.{AreGuarantees, ShowsEvidence, strongest};
@@ -14,9 +14,9 @@ ghost use Rattle.level_report.specs.Ordered.{ordered_or as is_ordered_or, IsFoun
 
 use crate::lines::line_of;
 use history_model::{Guarantee, Operation};
-use level_text::{FaultLines, KeptGuarantees, LevelName};
-use reg_clusters::ClusterTable;
+use reg_levels::clusters::ClusterTable;
 use reg_levels::{Decision, LevelFault, Step, decide};
+use report_text::level::{FaultLines, KeptGuarantees, LevelName};
 use std::alloc::{AllocError, Global};
 
 /// What is found of one guarantee: whether it was kept; why not; and else the clusters in an order that

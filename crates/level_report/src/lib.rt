@@ -33,8 +33,8 @@ mod whole;
 
 pub use alone::check_alone;
 pub use byte_ends::{FromReader, FromWriter, IoFail, MemSink, MemSource, Sink, Source};
-pub use level_text::{LevelName, LevelsReport, RegisterLevels, Required, text};
 pub use outcome::Outcome;
 pub use reg_intake::{Refusal, message};
+pub use report_text::level::{LevelName, LevelsReport, RegisterLevels, Required, text};
 pub use settings::{Asked, MAX_WORKERS, Settings};
 pub use whole::run;

@@ -3,9 +3,9 @@ ghost use Rattle.std.specs.Prelude.{◌≡◌, map, option_map, IfOk};
 ghost use Rattle.level_report.specs.Lines as shown;
 
 use history_model::Operation;
-use level_text::{GapLines, MissedWrite, WentBack};
-use reg_counts::OldRead;
-use reg_gap::Gap;
+use reg_levels::counts::OldRead;
+use reg_levels::gap::Gap;
+use report_text::level::{GapLines, MissedWrite, WentBack};
 use std::alloc::{AllocError, Global};
 
 /// The line of the operation at a place; the initial write has line 0.

@@ -1,17 +1,17 @@
 //! Orders of a register's operations, by lines.
 ghost use Rattle.std.specs.Prelude.{◌≡◌, ◌++◌, ◌∷◌, [], IfOk, OnOk};
 ghost use Rattle.history_model.specs.Operations.{IsHistory};
-ghost use Rattle.reg_clusters.specs.Places.{AreFew, IsByCall};
-ghost use Rattle.reg_clusters.specs.Table.{IsClusterTable};
+ghost use Rattle.reg_levels.specs.Clusters.Places.{AreFew, IsByCall};
+ghost use Rattle.reg_levels.specs.Clusters.Table.{IsClusterTable};
 ghost use Rattle.reg_levels.specs.Decisions.{operations_of_places};
 ghost use Rattle.level_report.specs.Guarantees.{lines_of, KeepsLevel};
 ghost use Rattle.level_report.specs.Ordered.{IsOrderedBy};
 
 use crate::guarantees::Ordered;
 use history_model::Operation;
-use level_text::OrderLines;
-use reg_clusters::ClusterTable;
+use reg_levels::clusters::ClusterTable;
 use reg_levels::order_of;
+use report_text::level::OrderLines;
 use std::alloc::{AllocError, Global};
 
 /// Adds the line of the operation at a place, if somebody called it.

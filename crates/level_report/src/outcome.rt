@@ -2,7 +2,7 @@
 ghost use Rattle.std.specs.Prelude.{◌≡◌};
 ghost use Rattle.level_report.specs.Totals.{outcome_said, outcome_of_level, outcome_of_verdict, totals_say};
 
-use level_text::{CausalVerdict, LevelName, Required, Totals};
+use report_text::level::{CausalVerdict, LevelName, Required, Totals};
 
 /// Whether a history kept what was required.
 #[derive(Clone, Copy, Debug, PartialEq, Eq)]

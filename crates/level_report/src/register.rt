@@ -2,13 +2,13 @@
 ghost use Rattle.std.specs.Prelude.{◌≡◌, ◌<◌, length, true, false, Option, IfOk, IfSome};
 ghost use Rattle.history_model.specs.Legal.{IsAtomic};
 ghost use Rattle.history_model.specs.Operations.{IsHistory};
-ghost use Rattle.reg_clusters.specs.Places.{AreFew, IsByCall};
-ghost use Rattle.reg_clusters.specs.Table.{IsClusterTable};
+ghost use Rattle.reg_levels.specs.Clusters.Places.{AreFew, IsByCall};
+ghost use Rattle.reg_levels.specs.Clusters.Table.{IsClusterTable};
 ghost use Rattle.level_report.specs.Freshness.{IsFreshness};
-ghost use Rattle.reg_clusters.specs.Places.{IsAt};
+ghost use Rattle.reg_levels.specs.Clusters.Places.{IsAt};
 ghost use Rattle.reg_zones.specs.Faults.{IsFirstUnwritten};
 ghost use Rattle.history_model.specs.declared.operation.Operation.{Operation as AnOperation};
-ghost use Rattle.level_text.specs.declared.report.LevelName.{LevelName as ALevel};
+ghost use Rattle.report_text.specs.declared.level.report.LevelName.{LevelName as ALevel};
 ghost use Rattle.level_report.specs.Guarantees.{IsOrderFor, or_else};
 ghost use Rattle.level_report.specs.Ordered.{IsOrdered, IsOrderedBy};
 ghost use Rattle.level_report.specs.declared.settings.Asked.{Asked as AnAsked};
@@ -25,9 +25,11 @@ use crate::settings::Asked;
 use crate::sooner::atomic_order;
 use history_model::{Operation, RegId};
 use history_text::Name;
-use level_text::{EarlyRead, Freshness, KeptGuarantees, LevelName, OrderLines, RegisterLevels};
 use reg_arena::Arena;
-use reg_clusters::{ClusterTable, cluster_table, first_early};
+use reg_levels::clusters::{ClusterTable, cluster_table, first_early};
+use report_text::level::{
+    EarlyRead, Freshness, KeptGuarantees, LevelName, OrderLines, RegisterLevels,
+};
 use std::alloc::{AllocError, Global};
 
 /// What is found of one register.

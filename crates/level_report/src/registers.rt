@@ -6,9 +6,9 @@ ghost use Rattle.level_report.specs.Registers.{AreLines, AreNumbers};
 use crate::register::register_line;
 use crate::settings::{Asked, Settings};
 use history_model::RegId;
-use level_text::RegisterLevels;
 use parallel::{map_each, share_of};
 use reg_arena::Arena;
+use report_text::level::RegisterLevels;
 use std::alloc::{AllocError, Global};
 use std::thread::Threads;
 

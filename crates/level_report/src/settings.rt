@@ -1,7 +1,7 @@
 //! What a run asks for.
 ghost use Rattle.std.specs.Prelude.{◌≡◌, ◌≤◌, None, Some};
 
-use level_text::Required;
+use report_text::level::Required;
 
 /// The most workers that share the registers.
 pub const MAX_WORKERS: u32 = 16;

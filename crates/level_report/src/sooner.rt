@@ -5,12 +5,12 @@ ghost use Rattle.std.specs.List.Sorted.{IsNonDecreasingBy};
 ghost use Rattle.history_model.specs.Legal.{IsAtomic};
 ghost use Rattle.history_model.specs.Operations.{IsHistory};
 ghost use Rattle.history_model.specs.declared.guarantee.Guarantee.TheVariants as guarantee;
-ghost use Rattle.reg_clusters.specs.Places.{AreFew, IsByCall};
-ghost use Rattle.reg_clusters.specs.Table.{IsClusterTable};
+ghost use Rattle.reg_levels.specs.Clusters.Places.{AreFew, IsByCall};
+ghost use Rattle.reg_levels.specs.Clusters.Table.{IsClusterTable};
 ghost use Rattle.level_report.specs.Ordered.{AreLowEnds, KeepsOrder};
 
 use history_model::Operation;
-use reg_clusters::ClusterTable;
+use reg_levels::clusters::ClusterTable;
 use std::alloc::{AllocError, Global};
 
 /// A cluster, by its number, and the low end of its zone.

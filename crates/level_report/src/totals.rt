@@ -5,7 +5,7 @@ ghost use Rattle.level_report.specs.Totals.{says as says_of, told as is_told, to
 ghost use Rattle.level_report.specs.Totals.{whole_gap as gap_of_whole, AreTotals};
 ghost use Rattle.reg_zones.specs.Clusters.{greatest};
 
-use level_text::{CausalLines, LevelName, RegisterLevels, Totals};
+use report_text::level::{CausalLines, LevelName, RegisterLevels, Totals};
 
 /// What is summed over the registers.
 #[derive(Clone, Copy, Debug, PartialEq, Eq)]

@@ -14,9 +14,9 @@ use Rattle.reg_arena.specs.declared.process_standing.Open.{Open}
 use Rattle.reg_arena.specs.Step.{IsLastWith, IsOpenCall}
 use Rattle.history_model.specs.declared.ids.EvId.{EvId}
 use Rattle.history_model.specs.declared.ids.RegId.{RegId}
-use Rattle.event_lists.specs.EventLists.{IsAlike}
-use Rattle.event_lists.specs.EventLists.{IsLastOf}
-use Rattle.event_lists.proofs.ByValue.{key-by, key-none, key-parts, key-register}
+use Rattle.reg_arena.specs.Lists.EventLists.{IsAlike}
+use Rattle.reg_arena.specs.Lists.EventLists.{IsLastOf}
+use Rattle.reg_arena.proofs.ListLemmas.ByValue.{key-by, key-none, key-parts, key-register}
 
 -- the last event of an event's register and value is like it
 alike-last : (es : List Event) (e : Event) (r : RegId) (o : Option EvId) → e.register ≡ Some r

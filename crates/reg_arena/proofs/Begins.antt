@@ -9,7 +9,7 @@ use Rattle.history_model.proofs.Walking.{begins-call}
 use Rattle.history_model.specs.Operations.{is_a_call, is_a_reply}
 use Rattle.history_model.specs.Naming.{begins_at}
 use Rattle.history_model.specs.declared.ids.EvId.{EvId}
-use Rattle.event_lists.specs.EventLists.{IsCallAt, IsCallOf}
+use Rattle.reg_arena.specs.Lists.EventLists.{IsCallAt, IsCallOf}
 
 -- an event without a call begins no operation
 pub begins-none : (es : List Event) (i : ℕ) (e : Event) → IsCallOf es i e None → false ≡ begins_at es i e

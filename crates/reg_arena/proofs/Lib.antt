@@ -1,3 +1,4 @@
+pub mod ListLemmas
 pub mod Numbered
 pub mod Alike
 pub mod Mapped

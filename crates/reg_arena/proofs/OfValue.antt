@@ -19,19 +19,19 @@ use Rattle.history_model.specs.Walking.{IsFirstOf, key_at, by_process, by_regist
 use Rattle.history_model.specs.Naming.{IsNamed, IsEventOf, IsEventIn, IsOperOf}
 use Rattle.history_model.specs.Naming.{begins_at, belongs_at, name_by}
 use Rattle.history_model.specs.OfValue.{IsMember, IsWriteOf, IsLastCall, IsFirstReply}
-use Rattle.event_lists.specs.EventLists.{IsCallAt, IsCallOf as IsColumnCall, IsKeptWrite, IsLastRead}
-use Rattle.event_lists.specs.EventLists.{by_write, by_reply, by_read, later}
+use Rattle.reg_arena.specs.Lists.EventLists.{IsCallAt, IsCallOf as IsColumnCall, IsKeptWrite, IsLastRead}
+use Rattle.reg_arena.specs.Lists.EventLists.{by_write, by_reply, by_read, later}
 use Rattle.reg_arena.specs.ValueTimes.{initial_call}
-use Rattle.event_lists.specs.Tables.{item_at}
+use Rattle.reg_arena.specs.Lists.Tables.{item_at}
 use Rattle.history_model.specs.declared.ids.EvId.{EvId}
 use Rattle.history_model.specs.declared.ids.RegId.{RegId}
 use Rattle.history_model.specs.declared.ids.Oper.TheVariants.{Initial, Called}
 use Rattle.history_model.specs.declared.event.Event.{Event}
 use Rattle.history_model.specs.declared.event.What.{What}
 use Rattle.history_model.specs.declared.event.What.TheVariants.{Reply}
-use Rattle.event_lists.proofs.Append.{key-within, write-call, write-value, reply-said}
-use Rattle.event_lists.proofs.Append.{reply-value, read-said, read-value}
-use Rattle.event_lists.proofs.ByValue.{key-both, key-parts}
+use Rattle.reg_arena.proofs.ListLemmas.Append.{key-within, write-call, write-value, reply-said}
+use Rattle.reg_arena.proofs.ListLemmas.Append.{reply-value, read-said, read-value}
+use Rattle.reg_arena.proofs.ListLemmas.ByValue.{key-both, key-parts}
 use Rattle.history_model.proofs.Walking.{number-known}
 use Rattle.history_model.proofs.Recorded.{In-initials, initials-In}
 use Rattle.history_model.proofs.Belonging.{IsCallOf, IsReplied, called-one}

@@ -24,7 +24,7 @@ use Rattle.history_model.specs.Events.{is_of_process, open_call, open_asked, cra
 use Rattle.history_model.specs.Refusals.{AreAccepted, writes_to}
 use Rattle.history_model.specs.History.{history_of, event_after, register_names, register_number, what_by}
 use Rattle.history_model.specs.Walking.{key_at, by_process, by_value}
-use Rattle.event_lists.specs.EventLists.{IsLastOf, by_write}
+use Rattle.reg_arena.specs.Lists.EventLists.{IsLastOf, by_write}
 use Rattle.reg_arena.specs.Step.{IsOpenCall, IsStanding, IsNumber, IsWritten}
 use Rattle.reg_arena.specs.declared.process_standing.Open.{Open}
 use Rattle.reg_arena.specs.declared.process_standing.Standing.TheVariants.{Crashed, Free}
@@ -37,8 +37,8 @@ use Rattle.history_model.proofs.Numbers.{is-In, place-in, place-out}
 use Rattle.history_model.proofs.Accepted.{last-some, IsLineAt, IsLastPassing, line-at}
 use Rattle.history_model.proofs.Accepted.{at-after, asked-value, call-asks, call-line}
 use Rattle.history_model.proofs.Turns.{IsCallEvent, call-event, number-later}
-use Rattle.event_lists.proofs.Append.{write-call, write-value}
-use Rattle.event_lists.proofs.ByValue.{key-by, key-parts}
+use Rattle.reg_arena.proofs.ListLemmas.Append.{write-call, write-value}
+use Rattle.reg_arena.proofs.ListLemmas.ByValue.{key-by, key-parts}
 use Rattle.history_model.proofs.Walking.{number-known}
 
 -- ---- the last and the first of a list

@@ -28,8 +28,8 @@ use Rattle.reg_arena.specs.declared.process_standing.Standing.{Standing}
 use Rattle.reg_arena.specs.declared.process_standing.Standing.TheVariants.{Opened, Crashed, Free}
 use Rattle.history_model.specs.declared.refusal.LineRefusal.{LineRefusal}
 use Rattle.history_model.specs.declared.refusal.Reason.{Reason}
-use Rattle.event_lists.specs.EventLists.{by_write}
-use Rattle.event_lists.proofs.Append.{key-within}
+use Rattle.reg_arena.specs.Lists.EventLists.{by_write}
+use Rattle.reg_arena.proofs.ListLemmas.Append.{key-within}
 use Rattle.history_model.proofs.Accepted.{call-replies, reply-asks, reply-ends, fail-ends}
 use Rattle.reg_arena.proofs.Open.{open-some, crashed-some, free-none, written-none, written-some, name-at}
 use Rattle.history_model.specs.declared.refusal.Reason.TheVariants.{OpenCall, WrittenBefore}

@@ -29,7 +29,7 @@ use Rattle.history_text.specs.declared.event.Kind.{Kind}
 use Rattle.history_text.specs.declared.event.Kind.TheVariants.{CallRead, CallWrite, Reply as AReply}
 use Rattle.history_text.specs.declared.event.Kind.TheVariants.{Fail as AFail, Crash as ACrash}
 use Rattle.history_model.specs.Walking.{key_at, by_process, by_register, by_value}
-use Rattle.event_lists.specs.EventLists.{IsCallAt, IsAppendable, end_of}
+use Rattle.reg_arena.specs.Lists.EventLists.{IsCallAt, IsAppendable, end_of}
 use Rattle.std.specs.Prelude.{Result, Ok, Err, OnOk, max}
 use Rattle.std.specs.declared.alloc.AllocError.{AllocError}
 use Rattle.std.specs.Result.{IsErrAnd}
@@ -39,8 +39,8 @@ use Rattle.reg_arena.specs.Step.{IsNumber, IsOpenCall, IsStep, IsTaken, OnOkAfte
 use Rattle.reg_arena.specs.Step.{name_added, names_and, step_result, with_event}
 use Rattle.history_model.specs.declared.ids.EvId.{EvId}
 use Rattle.history_model.specs.declared.event.Event.{Event}
-use Rattle.event_lists.proofs.Append.{key-back, key-within}
-use Rattle.event_lists.proofs.AppendCalls.{call-keep}
+use Rattle.reg_arena.proofs.ListLemmas.Append.{key-back, key-within}
+use Rattle.reg_arena.proofs.ListLemmas.AppendCalls.{call-keep}
 use Rattle.history_model.proofs.Numbers.{is-In, place-in, place-out, names-replied, names-known, names-new}
 use Rattle.history_model.proofs.Accepted.{free-of, asked-call, asked-end, asked-value}
 use Rattle.history_model.proofs.Accepted.{reply-asks, reply-ends, fail-ends}

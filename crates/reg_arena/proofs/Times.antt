@@ -4,28 +4,28 @@ use Rattle.std.proofs.Common.{Some, None, List, refl, sym, ap, subst, ◌∙◌,
 use Rattle.history_text.specs.declared.limits.TheConstants.{MAX_EVENTS}
 use Rattle.history_text.specs.declared.event.Val.{Val}
 use Rattle.history_text.specs.declared.event.Val.TheVariants.{Null, Int}
-use Rattle.event_lists.specs.EventLists.{events_in, calls_in}
+use Rattle.reg_arena.specs.Lists.EventLists.{events_in, calls_in}
 use Rattle.history_model.specs.History.{History, IsRecorded, asked_for, event_value}
 use Rattle.history_model.specs.Events.{Asked}
 use Rattle.history_text.specs.declared.event.LineEvent.{LineEvent}
 use Rattle.history_model.proofs.Accepted.{IsLineAt, line-at, asking}
 use Rattle.history_model.specs.Walking.{IsFirstOf, key_at, by_register, by_value}
 use Rattle.history_model.specs.OfValue.{IsLastCall, IsFirstReply}
-use Rattle.event_lists.specs.EventLists.{AreEventLists, IsCallOf, IsLastRead}
+use Rattle.reg_arena.specs.Lists.EventLists.{AreEventLists, IsCallOf, IsLastRead}
 use Rattle.reg_arena.specs.ValueTimes.{HasTimes}
-use Rattle.event_lists.specs.EventLists.{by_read, by_reply, by_write, later}
+use Rattle.reg_arena.specs.Lists.EventLists.{by_read, by_reply, by_write, later}
 use Rattle.reg_arena.specs.ValueTimes.{last_time}
-use Rattle.event_lists.specs.EventLists.{entry_in, write_called, write_kept}
+use Rattle.reg_arena.specs.Lists.EventLists.{entry_in, write_called, write_kept}
 use Rattle.reg_arena.specs.ValueTimes.{reply_time}
 use Rattle.history_model.specs.declared.ids.EvId.{EvId}
 use Rattle.history_model.specs.declared.event.Event.{Event}
-use Rattle.event_lists.specs.declared.list_ends.Entry.{Entry}
-use Rattle.event_lists.specs.declared.list_ends.Write.{Write}
-use Rattle.event_lists.specs.declared.list_ends.Write.TheVariants.{Unwritten, Written, Failed}
-use Rattle.event_lists.specs.declared.lists.EventLists.{EventLists}
-use Rattle.event_lists.proofs.Append.{key-along, key-within, read-value}
-use Rattle.event_lists.proofs.KeptWrite.{kept-none, kept-write}
-use Rattle.event_lists.proofs.ByValue.{key-by, key-parts, key-register}
+use Rattle.reg_arena.specs.declared.event_lists.list_ends.Entry.{Entry}
+use Rattle.reg_arena.specs.declared.event_lists.list_ends.Write.{Write}
+use Rattle.reg_arena.specs.declared.event_lists.list_ends.Write.TheVariants.{Unwritten, Written, Failed}
+use Rattle.reg_arena.specs.declared.event_lists.lists.EventLists.{EventLists}
+use Rattle.reg_arena.proofs.ListLemmas.Append.{key-along, key-within, read-value}
+use Rattle.reg_arena.proofs.ListLemmas.KeptWrite.{kept-none, kept-write}
+use Rattle.reg_arena.proofs.ListLemmas.ByValue.{key-by, key-parts, key-register}
 use Rattle.history_model.proofs.Named.{event-register}
 use Rattle.reg_arena.proofs.OfValue.{last-call_is, first-reply_null, first-reply_none, first-reply_entry}
 use Rattle.history_model.proofs.Lists.{slice_get_inside}

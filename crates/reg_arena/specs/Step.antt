@@ -14,7 +14,7 @@ use Rattle.reg_arena.specs.declared.process_standing.Standing.TheVariants.{Opene
 use Rattle.history_model.specs.declared.refusal.BuildError.{BuildError}
 use Rattle.history_model.specs.declared.refusal.BuildError.TheVariants.{Refused, Memory}
 use Rattle.history_model.specs.Walking.{IsFirstOf, by_process, by_value}
-use Rattle.event_lists.specs.EventLists.{IsCall, IsLastOf, by_write}
+use Rattle.reg_arena.specs.Lists.EventLists.{IsCall, IsLastOf, by_write}
 use Rattle.history_model.specs.History.{History, IsRecorded, history_of}
 use Rattle.history_model.specs.Refusals.{AreAccepted, event_refusal}
 

@@ -6,8 +6,8 @@ use Rattle.std.specs.Option.{option_or}
 use Rattle.history_text.specs.declared.event.Val.{Val}
 use Rattle.history_text.specs.declared.event.Val.TheVariants.{Null, Int}
 use Rattle.history_model.specs.declared.ids.EvId.{EvId}
-use Rattle.event_lists.specs.declared.list_ends.Entry.{Entry}
-use Rattle.event_lists.specs.EventLists.{later, write_kept}
+use Rattle.reg_arena.specs.declared.event_lists.list_ends.Entry.{Entry}
+use Rattle.reg_arena.specs.Lists.EventLists.{later, write_kept}
 
 -- the call of the initial write
 abbrev pub initial_call : Val → Option ℕ

@@ -6,7 +6,7 @@ ghost use Rattle.std.specs.Prelude.{◌≡◌, ◌<◌, length, max, IfOk, OnOk,
 ghost use Rattle.history_text.specs.declared.event.LineEvent.{LineEvent as ALineEvent};
 ghost use Rattle.history_text.specs.declared.event.ReplyParts.{ReplyParts as AReplyParts};
 ghost use Rattle.history_text.specs.declared.limits.TheConstants.{MAX_EVENTS};
-ghost use Rattle.event_lists.specs.EventLists.{IsAlike, IsAppendable, end_of};
+ghost use Rattle.reg_arena.specs.Lists.EventLists.{IsAlike, IsAppendable, end_of};
 ghost use Rattle.history_model.specs.Events.{Asked, asked_by, failed_by, is_crash, replied_by};
 ghost use Rattle.history_model.specs.History.{IsRecorded};
 ghost use Rattle.reg_arena.specs.Step.{IsLastWith, IsNumber, IsStanding, IsTaken, OnOkAfter};

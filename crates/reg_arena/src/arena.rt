@@ -10,8 +10,8 @@ ghost use Rattle.history_model.specs.Naming.{IsNamed, IsOper, IsOperOf, begins_a
 ghost use Rattle.history_model.specs.OfValue.{IsWriteOf};
 ghost use Rattle.history_model.specs.declared.event.Event.{Event as AnEvent};
 
+use crate::event_lists::EventLists;
 use crate::names::Names;
-use event_lists::EventLists;
 use history_model::{EvId, Event, Op, Oper, RegId};
 use history_text::{OpKind, Val};
 use std::marker::Model;
@@ -26,7 +26,7 @@ pub struct Arena {
 impl Model for Arena {
     ghost use Rattle.std.specs.Prelude.{◌≡◌, length};
     ghost use Rattle.history_model.specs.History.{History, IsRecorded};
-    ghost use Rattle.event_lists.specs.EventLists.{AreEventLists, events_in, register_ends};
+    ghost use Rattle.reg_arena.specs.Lists.EventLists.{AreEventLists, events_in, register_ends};
 
     ghost Value = { History };
 

@@ -13,10 +13,10 @@ ghost use Rattle.reg_arena.specs.Step.{IsLastWith, IsNumber, IsStep, step_result
 
 use crate::appends::CallParts;
 use crate::arena::Arena;
+use crate::event_lists::{EventLists, HashKey, Seeded};
 use crate::names::Names;
 use crate::numbering::{NumberedLines, Numbering};
 use crate::refusals::refused;
-use event_lists::{EventLists, HashKey, Seeded};
 use history_model::{BuildError, EvId, Reason, RegId};
 use history_text::{Kind, LineEvent, LineFault, MAX_EVENTS, OpKind, ReplyParts, Val};
 use std::alloc::{AllocError, Global};

@@ -11,15 +11,17 @@
 //! answer. No floor above calls [`Arena::first_of_process`], [`Arena::first_with_value`],
 //! [`Arena::next_with_value`] or [`Arena::write_of`].
 //!
-//! Read it in this order: `numbering`, which numbers the registers of lines, and `names`; `arena`,
-//! `operation` and `value_times`, which answer, from the lists of `event_lists`; `process_standing`,
-//! `agreement` and `refusals`, which refuse an event; `appends`, which takes one in; and `build`.
+//! Read it in this order: `event_lists`, which keeps the events; `numbering`, which numbers the registers of
+//! lines, and `names`; `arena`, `operation` and `value_times`, which answer from these lists;
+//! `process_standing`, `agreement` and `refusals`, which refuse an event; `appends`, which takes one in; and
+//! `build`.
 #![tactic(auto)]
 
 mod agreement;
 mod appends;
 mod arena;
 mod build;
+mod event_lists;
 mod names;
 mod numbering;
 mod operation;

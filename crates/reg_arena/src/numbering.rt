@@ -5,7 +5,7 @@ ghost use Rattle.std.specs.List.{position_or_len};
 ghost use Rattle.reg_arena.specs.Numbered.{AreNumbered, ArePartsNumbered, IsNumbered};
 ghost use Rattle.reg_arena.specs.Numbered.{lines_of, name_called, names_with, with_name};
 
-use event_lists::{HashKey, Seeded};
+use crate::event_lists::{HashKey, Seeded};
 use history_text::{Kind, LineEvent, LineFault, Name};
 use indexmap::IndexSet;
 use std::alloc::{AllocError, Global};

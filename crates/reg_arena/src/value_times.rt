@@ -4,10 +4,10 @@ ghost use Rattle.history_text.specs.declared.event.Val.{Val as AVal};
 ghost use Rattle.history_model.specs.Walking.{by_value, key_at};
 ghost use Rattle.history_model.specs.OfValue.{IsFirstReply, IsLastCall, IsWriteOf};
 ghost use Rattle.reg_arena.specs.ValueTimes.{HasTimes, last_time, reply_time};
-ghost use Rattle.event_lists.specs.declared.list_ends.Entry.{Entry as AnEntry};
+ghost use Rattle.reg_arena.specs.declared.event_lists.list_ends.Entry.{Entry as AnEntry};
 
 use crate::arena::Arena;
-use event_lists::Entry;
+use crate::event_lists::Entry;
 use history_model::{EvId, Oper, RegId};
 use history_text::Val;
 

@@ -1,3 +1,4 @@
+pub mod CasHistoryLemmas
 pub mod Pulling
 pub mod Passing
 mod Written

@@ -5,3 +5,4 @@ pub mod Pulls
 pub mod Intake
 pub mod Underway
 pub mod Arena
+pub mod CasHistory

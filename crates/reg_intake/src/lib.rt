@@ -1,4 +1,5 @@
-//! From the bytes of a source to the arena of their history, or the refusal.
+//! From the bytes of a source to the arena of their history, or the refusal; or to the operations of each
+//! register, where operations compare and swap (cas).
 //!
 //! What the floor above may rely on: [`arena_of`] pulls all the bytes of a source, and gives the arena of
 //! their history; or it answers a [`Refusal`]: that of the first faulty line, too long an input, a source
@@ -9,7 +10,8 @@
 //!
 //! Read it in this order: `refusal` and `wording`; `pulls`, `buffer` and `bytes`, where the bytes come in,
 //! and `intake`, where they are read too; `reader`, which reads ahead, and `block`, how much at once;
-//! `underway`, which has it do so by turns; and `arena`, which has them all taken in; `alone`.
+//! `underway`, which has it do so by turns; and `arena`, which has them all taken in; `alone`; and
+//! [`cas_history`], for histories with cas.
 #![tactic(auto)]
 
 mod alone;
@@ -17,6 +19,7 @@ mod arena;
 mod block;
 mod buffer;
 mod bytes;
+pub mod cas_history;
 mod intake;
 mod pulls;
 mod reader;

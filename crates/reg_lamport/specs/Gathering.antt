@@ -30,12 +30,7 @@ nothing_met r = record {
 
 -- a read after the call of a write at time t
 abbrev pub settled : ℕ → ReadEntry → ReadEntry
-settled t e = record {
-  read = e.read;
-  reply = e.reply;
-  old_write = e.old_write;
-  is_overlapped = e.is_overlapped || nat_lt t e.reply;
-}
+settled t e = record e { is_overlapped = e.is_overlapped || nat_lt t e.reply }
 
 -- after the call of a write
 abbrev pub write_met : Gathered → EvId → ℕ → ℕ → Gathered
@@ -58,13 +53,7 @@ entry_of g id call reply = record {
 
 -- after the call of a completed read
 abbrev pub read_met : Gathered → EvId → ℕ → ℕ → Gathered
-read_met g id call reply = record {
-  entries = g.entries ++ entry_of g id call reply ∷ [];
-  settled = g.settled;
-  last = g.last;
-  last_reply = g.last_reply;
-  before_last = g.before_last;
-}
+read_met g id call reply = record g { entries = g.entries ++ entry_of g id call reply ∷ [] }
 
 -- after the call of a read, pending or not
 abbrev pub any_read_met : Gathered → EvId → ℕ → Option ℕ → Gathered

@@ -7,12 +7,12 @@ use Rattle.std.proofs.lemmas.Bool.Decides.{Decides-eqb}
 use Rattle.history_model.specs.Operations.{IsHistory, IsWrite}
 use Rattle.history_model.specs.declared.guarantee.Guarantee.{Guarantee}
 use Rattle.history_model.specs.declared.operation.Operation.{Operation}
-use Rattle.order_graph.specs.declared.edge.Edge.{Edge}
-use Rattle.order_graph.proofs.Places.{place-inside, place-same}
-use Rattle.reg_clusters.proofs.Places.{at-In, at-below, calls_ascend}
-use Rattle.reg_clusters.specs.Places.{IsAt, IsByCall}
-use Rattle.reg_clusters.specs.Table.{IsClusterTable}
-use Rattle.reg_clusters.specs.declared.table.ClusterEnds.{ClusterEnds}
+use Rattle.reg_levels.specs.declared.order_graph.edge.Edge.{Edge}
+use Rattle.reg_levels.proofs.OrderGraphLemmas.Places.{place-inside, place-same}
+use Rattle.reg_levels.proofs.ClusterLemmas.Places.{at-In, at-below, calls_ascend}
+use Rattle.reg_levels.specs.Clusters.Places.{IsAt, IsByCall}
+use Rattle.reg_levels.specs.Clusters.Table.{IsClusterTable}
+use Rattle.reg_levels.specs.declared.clusters.table.ClusterEnds.{ClusterEnds}
 use Rattle.reg_levels.specs.LevelGraph.{Extends, IsJoin, IsLevelGraph, JoinsIf, Reaches}
 use Rattle.reg_levels.specs.Levels.{IsOfSessions}
 use Rattle.reg_levels.specs.declared.graph.LevelGraph.{LevelGraph}

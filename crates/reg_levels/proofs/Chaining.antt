@@ -7,9 +7,9 @@ use Rattle.std.proofs.lemmas.Bool.Decides.{Decides-ltb}
 use Rattle.std.proofs.lemmas.Option.{slice_get_within}
 use Rattle.history_model.specs.declared.guarantee.Guarantee.{Guarantee}
 use Rattle.history_model.specs.declared.operation.Operation.{Operation}
-use Rattle.order_graph.specs.declared.edge.Edge.{Edge}
-use Rattle.order_graph.proofs.Places.{place-inside, place-same}
-use Rattle.reg_clusters.specs.declared.table.ClusterEnds.{ClusterEnds}
+use Rattle.reg_levels.specs.declared.order_graph.edge.Edge.{Edge}
+use Rattle.reg_levels.proofs.OrderGraphLemmas.Places.{place-inside, place-same}
+use Rattle.reg_levels.specs.declared.clusters.table.ClusterEnds.{ClusterEnds}
 use Rattle.reg_levels.specs.LevelGraph.{ChainReaches, EntriesReach, Extends, IsLevelGraph, Joins, JoinsIf}
 use Rattle.reg_levels.specs.LevelGraph.{Reaches, TimesReach}
 use Rattle.reg_levels.specs.Levels.{keeps_time}

@@ -7,11 +7,11 @@ use Rattle.history_model.specs.Operations.{IsHistory, is_write, value_of}
 use Rattle.history_model.specs.declared.guarantee.Guarantee.{Guarantee}
 use Rattle.history_model.specs.declared.operation.Operation.{Operation}
 use Rattle.level_laws.specs.Leads.{IsTooEarly}
-use Rattle.order_graph.proofs.Places.{place-same}
-use Rattle.reg_clusters.proofs.Places.{at-In, at-get, at-is, nothing}
-use Rattle.reg_clusters.specs.Places.{IsAt}
-use Rattle.reg_clusters.specs.Table.{IsClusterTable, IsEnds}
-use Rattle.reg_clusters.specs.declared.table.ClusterEnds.{ClusterEnds}
+use Rattle.reg_levels.proofs.OrderGraphLemmas.Places.{place-same}
+use Rattle.reg_levels.proofs.ClusterLemmas.Places.{at-In, at-get, at-is, nothing}
+use Rattle.reg_levels.specs.Clusters.Places.{IsAt}
+use Rattle.reg_levels.specs.Clusters.Table.{IsClusterTable, IsEnds}
+use Rattle.reg_levels.specs.declared.clusters.table.ClusterEnds.{ClusterEnds}
 use Rattle.reg_zones.specs.Clusters.{IsInCluster, IsKept}
 
 -- the cluster of the operation at a place

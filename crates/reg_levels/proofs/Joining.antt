@@ -6,11 +6,11 @@ use Rattle.std.proofs.lemmas.List.{length_push}
 use Rattle.std.proofs.lemmas.Option.{slice_get_within}
 use Rattle.history_model.specs.declared.guarantee.Guarantee.{Guarantee}
 use Rattle.history_model.specs.declared.operation.Operation.{Operation}
-use Rattle.order_graph.specs.Graph.{IsPath}
-use Rattle.order_graph.specs.declared.edge.Edge.{Edge}
-use Rattle.order_graph.proofs.Places.{place-push, place-push_cases, place-push_kept}
-use Rattle.order_graph.proofs.Paths.{path-append}
-use Rattle.reg_clusters.specs.declared.table.ClusterEnds.{ClusterEnds}
+use Rattle.reg_levels.specs.OrderGraph.Graph.{IsPath}
+use Rattle.reg_levels.specs.declared.order_graph.edge.Edge.{Edge}
+use Rattle.reg_levels.proofs.OrderGraphLemmas.Places.{place-push, place-push_cases, place-push_kept}
+use Rattle.reg_levels.proofs.OrderGraphLemmas.Paths.{path-append}
+use Rattle.reg_levels.specs.declared.clusters.table.ClusterEnds.{ClusterEnds}
 use Rattle.reg_levels.specs.LevelGraph.{Extends, IsLevelEdge, IsLevelGraph, IsSameGraph, Joins, JoinsIf}
 use Rattle.reg_levels.specs.LevelGraph.{Reaches}
 use Rattle.reg_levels.specs.declared.graph.LevelGraph.{LevelGraph}

@@ -8,10 +8,10 @@ use Rattle.std.proofs.lemmas.Bool.Decides.{Decides-eqb}
 use Rattle.history_model.specs.Operations.{IsHistory, Precedes}
 use Rattle.history_model.specs.declared.guarantee.Guarantee.{Guarantee}
 use Rattle.history_model.specs.declared.operation.Operation.{Operation}
-use Rattle.order_graph.proofs.Places.{place-same}
-use Rattle.reg_clusters.proofs.Places.{at-In, calls_ascend}
-use Rattle.reg_clusters.specs.Places.{IsAt, IsByCall}
-use Rattle.reg_clusters.specs.declared.table.ClusterEnds.{ClusterEnds}
+use Rattle.reg_levels.proofs.OrderGraphLemmas.Places.{place-same}
+use Rattle.reg_levels.proofs.ClusterLemmas.Places.{at-In, calls_ascend}
+use Rattle.reg_levels.specs.Clusters.Places.{IsAt, IsByCall}
+use Rattle.reg_levels.specs.declared.clusters.table.ClusterEnds.{ClusterEnds}
 use Rattle.reg_levels.specs.LevelGraph.{Extends, IsInSession, IsJoin, IsLasting, IsLatestOf, IsLevelGraph}
 use Rattle.reg_levels.specs.LevelGraph.{JoinsNext}
 use Rattle.reg_levels.specs.LevelGraph.{Reaches, SessionsReach}

@@ -1,3 +1,7 @@
+pub mod GapLemmas
+pub mod CountLemmas
+pub mod OrderGraphLemmas
+pub mod ClusterLemmas
 pub mod Numbering
 pub mod Asking
 pub mod Joining

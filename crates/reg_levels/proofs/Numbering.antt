@@ -5,11 +5,11 @@ use Rattle.std.proofs.lemmas.Bool.{cases_order}
 use Rattle.std.proofs.lemmas.Option.{slice_get_within}
 use Rattle.history_model.specs.Operations.{IsHistory, value_of}
 use Rattle.history_model.specs.declared.operation.Operation.{Operation}
-use Rattle.order_graph.proofs.Places.{place-inside, place-same}
-use Rattle.reg_clusters.proofs.Places.{at-below, at-same, calls_ascend}
-use Rattle.reg_clusters.specs.Places.{IsAt, IsByCall}
-use Rattle.reg_clusters.specs.Table.{IsClusterTable, IsEnds}
-use Rattle.reg_clusters.specs.declared.table.ClusterEnds.{ClusterEnds}
+use Rattle.reg_levels.proofs.OrderGraphLemmas.Places.{place-inside, place-same}
+use Rattle.reg_levels.proofs.ClusterLemmas.Places.{at-below, at-same, calls_ascend}
+use Rattle.reg_levels.specs.Clusters.Places.{IsAt, IsByCall}
+use Rattle.reg_levels.specs.Clusters.Table.{IsClusterTable, IsEnds}
+use Rattle.reg_levels.specs.declared.clusters.table.ClusterEnds.{ClusterEnds}
 use Rattle.reg_zones.specs.Clusters.{IsInCluster}
 use Rattle.reg_levels.specs.LevelGraph.{AreWriteCalls}
 

@@ -12,12 +12,12 @@ use Rattle.history_model.specs.Operations.{value_of}
 use Rattle.history_model.specs.declared.guarantee.Guarantee.{Guarantee}
 use Rattle.history_model.specs.declared.operation.Operation.{Operation}
 use Rattle.level_laws.specs.WriteOrders.{IsWriteOrder}
-use Rattle.order_graph.proofs.Places.{edge-at, place-inside, place-same}
-use Rattle.order_graph.specs.Graph.{AreAmong, IsForwardOrder, IsPath}
-use Rattle.order_graph.specs.declared.edge.Edge.{Edge}
-use Rattle.reg_clusters.specs.Places.{IsAt, IsByCall}
-use Rattle.reg_clusters.specs.Table.{IsClusterTable}
-use Rattle.reg_clusters.specs.declared.table.ClusterEnds.{ClusterEnds}
+use Rattle.reg_levels.proofs.OrderGraphLemmas.Places.{edge-at, place-inside, place-same}
+use Rattle.reg_levels.specs.OrderGraph.Graph.{AreAmong, IsForwardOrder, IsPath}
+use Rattle.reg_levels.specs.declared.order_graph.edge.Edge.{Edge}
+use Rattle.reg_levels.specs.Clusters.Places.{IsAt, IsByCall}
+use Rattle.reg_levels.specs.Clusters.Table.{IsClusterTable}
+use Rattle.reg_levels.specs.declared.clusters.table.ClusterEnds.{ClusterEnds}
 use Rattle.reg_zones.specs.Clusters.{IsKept}
 use Rattle.reg_levels.specs.Decisions.{write_of_cluster, writes_of}
 use Rattle.reg_levels.specs.LevelGraph.{IsLevelEdge, IsLevelGraph, IsWholeGraph, IsClusterWrite}

@@ -13,11 +13,11 @@ use Rattle.history_model.specs.Lamport.{is_completed_read}
 use Rattle.history_model.specs.Operations.{IsHistory, is_write, value_of}
 use Rattle.history_model.specs.declared.operation.Operation.{Operation}
 use Rattle.level_laws.specs.WriteOrders.{expanded, is_read_of}
-use Rattle.order_graph.proofs.Places.{place-inside, place-same, place-set_cases}
-use Rattle.reg_clusters.proofs.Places.{at-In, at-below}
-use Rattle.reg_clusters.specs.Places.{IsAt, IsByCall}
-use Rattle.reg_clusters.specs.Table.{IsClusterTable, IsEnds}
-use Rattle.reg_clusters.specs.declared.table.ClusterEnds.{ClusterEnds}
+use Rattle.reg_levels.proofs.OrderGraphLemmas.Places.{place-inside, place-same, place-set_cases}
+use Rattle.reg_levels.proofs.ClusterLemmas.Places.{at-In, at-below}
+use Rattle.reg_levels.specs.Clusters.Places.{IsAt, IsByCall}
+use Rattle.reg_levels.specs.Clusters.Table.{IsClusterTable, IsEnds}
+use Rattle.reg_levels.specs.declared.clusters.table.ClusterEnds.{ClusterEnds}
 use Rattle.reg_zones.proofs.Values.{eq-same, same-true}
 use Rattle.reg_levels.specs.Decisions.{operations_of_places, write_of_cluster, writes_of}
 use Rattle.reg_levels.specs.LevelGraph.{IsClusterWrite}

@@ -9,12 +9,12 @@ use Rattle.history_model.specs.declared.guarantee.Guarantee.{Guarantee}
 use Rattle.history_model.specs.declared.operation.Operation.{Operation}
 use Rattle.level_laws.specs.Evidence.{AreLinks, IsCycle, IsLink, Link, first_write}
 use Rattle.level_laws.specs.Leads.{IsCleanFor}
-use Rattle.order_graph.proofs.Places.{place-inside, place-same}
-use Rattle.order_graph.specs.Graph.{IsPath}
-use Rattle.order_graph.specs.declared.edge.Edge.{Edge}
-use Rattle.reg_clusters.specs.Places.{IsAt, IsByCall}
-use Rattle.reg_clusters.specs.Table.{IsClusterTable, IsEnds}
-use Rattle.reg_clusters.specs.declared.table.ClusterEnds.{ClusterEnds}
+use Rattle.reg_levels.proofs.OrderGraphLemmas.Places.{place-inside, place-same}
+use Rattle.reg_levels.specs.OrderGraph.Graph.{IsPath}
+use Rattle.reg_levels.specs.declared.order_graph.edge.Edge.{Edge}
+use Rattle.reg_levels.specs.Clusters.Places.{IsAt, IsByCall}
+use Rattle.reg_levels.specs.Clusters.Table.{IsClusterTable, IsEnds}
+use Rattle.reg_levels.specs.declared.clusters.table.ClusterEnds.{ClusterEnds}
 use Rattle.reg_zones.specs.Clusters.{IsInCluster}
 use Rattle.reg_levels.specs.Decisions.{AreStepsOf}
 use Rattle.reg_levels.specs.LevelGraph.{AreWriteCalls, IsJoin, IsLevelEdge, IsLevelGraph, IsStepBy}

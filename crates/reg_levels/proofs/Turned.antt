@@ -4,9 +4,9 @@ use Rattle.std.proofs.Common.{Some}
 use Rattle.std.proofs.Common.{refl, sym, ap, ◌∙◌, subst, arith}
 use Rattle.std.proofs.lemmas.List.{length-append, length-drop}
 use Rattle.std.proofs.lemmas.Option.{slice_get_within}
-use Rattle.order_graph.proofs.Paths.{path-append}
-use Rattle.order_graph.specs.Graph.{IsPath}
-use Rattle.order_graph.specs.declared.edge.Edge.{Edge}
+use Rattle.reg_levels.proofs.OrderGraphLemmas.Paths.{path-append}
+use Rattle.reg_levels.specs.OrderGraph.Graph.{IsPath}
+use Rattle.reg_levels.specs.declared.order_graph.edge.Edge.{Edge}
 use Rattle.reg_levels.specs.LevelGraph.{IsTurnedCycle}
 
 -- the edges of a path are there

@@ -6,12 +6,12 @@ use Rattle.history_model.specs.Operations.{IsHistory, IsWrite, Precedes, value_o
 use Rattle.history_model.specs.declared.guarantee.Guarantee.{Guarantee}
 use Rattle.history_model.specs.declared.operation.Operation.{Operation}
 use Rattle.level_laws.specs.Leads.{LeadsTo}
-use Rattle.order_graph.proofs.Places.{place-same}
-use Rattle.order_graph.specs.declared.edge.Edge.{Edge}
-use Rattle.reg_clusters.proofs.Places.{In-at, places_ascend}
-use Rattle.reg_clusters.specs.Places.{IsByCall}
-use Rattle.reg_clusters.specs.Table.{IsClusterTable, IsEnds}
-use Rattle.reg_clusters.specs.declared.table.ClusterEnds.{ClusterEnds}
+use Rattle.reg_levels.proofs.OrderGraphLemmas.Places.{place-same}
+use Rattle.reg_levels.specs.declared.order_graph.edge.Edge.{Edge}
+use Rattle.reg_levels.proofs.ClusterLemmas.Places.{In-at, places_ascend}
+use Rattle.reg_levels.specs.Clusters.Places.{IsByCall}
+use Rattle.reg_levels.specs.Clusters.Table.{IsClusterTable, IsEnds}
+use Rattle.reg_levels.specs.declared.clusters.table.ClusterEnds.{ClusterEnds}
 use Rattle.reg_zones.proofs.Ends.{first_reply-le}
 use Rattle.reg_levels.specs.LevelGraph.{AreWriteCalls, InitialReaches, IsClusterWrite, Reaches}
 use Rattle.reg_levels.specs.LevelGraph.{SessionsReach, TimesReach}

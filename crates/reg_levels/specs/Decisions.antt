@@ -8,8 +8,8 @@ use Rattle.level_laws.specs.Evidence.{Evidence, IsLevelFault, Link}
 use Rattle.level_laws.specs.Evidence.Evidence.{unwritten, early, cycle}
 use Rattle.level_laws.specs.Leads.{IsCleanFor}
 use Rattle.level_laws.specs.WriteOrders.{IsWriteOrder}
-use Rattle.reg_clusters.specs.Places.{IsAt}
-use Rattle.reg_clusters.specs.declared.table.ClusterEnds.{ClusterEnds}
+use Rattle.reg_levels.specs.Clusters.Places.{IsAt}
+use Rattle.reg_levels.specs.declared.clusters.table.ClusterEnds.{ClusterEnds}
 use Rattle.reg_levels.specs.declared.decision.Decision.{Decision}
 use Rattle.reg_levels.specs.declared.decision.Decision.TheVariants.{Kept, Broken}
 use Rattle.reg_levels.specs.declared.decision.LevelFault.{LevelFault}

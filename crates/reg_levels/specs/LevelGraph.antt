@@ -7,10 +7,10 @@ use Rattle.std.specs.Prelude.{Option, Some, None}
 use Rattle.history_model.specs.Legal.{MustKeep}
 use Rattle.history_model.specs.declared.guarantee.Guarantee.{Guarantee}
 use Rattle.history_model.specs.declared.operation.Operation.{Operation}
-use Rattle.order_graph.specs.Graph.{IsPath}
-use Rattle.order_graph.specs.declared.edge.Edge.{Edge}
-use Rattle.reg_clusters.specs.Places.{IsAt}
-use Rattle.reg_clusters.specs.declared.table.ClusterEnds.{ClusterEnds}
+use Rattle.reg_levels.specs.OrderGraph.Graph.{IsPath}
+use Rattle.reg_levels.specs.declared.order_graph.edge.Edge.{Edge}
+use Rattle.reg_levels.specs.Clusters.Places.{IsAt}
+use Rattle.reg_levels.specs.declared.clusters.table.ClusterEnds.{ClusterEnds}
 use Rattle.reg_levels.specs.Levels.{is_lasting, keeps_time}
 use Rattle.reg_levels.specs.declared.graph.LevelGraph.{LevelGraph}
 use Rattle.reg_levels.specs.declared.graph.PlacePair.{PlacePair}

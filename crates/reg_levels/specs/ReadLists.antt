@@ -5,8 +5,8 @@ use Rattle.std.specs.List.{filter}
 use Rattle.history_model.specs.Operations.{is_write}
 use Rattle.history_model.specs.declared.operation.Operation.{Operation}
 use Rattle.level_laws.specs.WriteOrders.{is_read_of}
-use Rattle.reg_clusters.specs.Places.{IsAt}
-use Rattle.reg_clusters.specs.declared.table.ClusterEnds.{ClusterEnds}
+use Rattle.reg_levels.specs.Clusters.Places.{IsAt}
+use Rattle.reg_levels.specs.declared.clusters.table.ClusterEnds.{ClusterEnds}
 use Rattle.reg_levels.specs.LevelGraph.{IsClusterWrite}
 
 -- the operation at place p is no write, and k is the number of its cluster

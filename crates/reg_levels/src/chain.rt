@@ -3,17 +3,17 @@ ghost use Rattle.std.specs.Prelude.{IfOk, List, OnOk, Option, length, slice_get,
 ghost use Rattle.std.specs.Prelude.{◌^◌, ℕ, true};
 ghost use Rattle.history_model.specs.declared.guarantee.Guarantee.{Guarantee as AGuarantee};
 ghost use Rattle.history_model.specs.declared.operation.Operation.{Operation as AnOperation};
-ghost use Rattle.reg_clusters.specs.Table.{IsClusterTable};
-ghost use Rattle.reg_clusters.specs.declared.table.ClusterEnds.{ClusterEnds as AnEnds};
+ghost use Rattle.reg_levels.specs.Clusters.Table.{IsClusterTable};
+ghost use Rattle.reg_levels.specs.declared.clusters.table.ClusterEnds.{ClusterEnds as AnEnds};
 ghost use Rattle.reg_levels.specs.LevelGraph.{AreWriteCalls, ChainReaches, EntriesReach, Extends};
 ghost use Rattle.reg_levels.specs.LevelGraph.{IsLevelGraph, TimesReach};
 ghost use Rattle.reg_levels.specs.Levels.{keeps_time as times};
 
 use crate::asked::keeps_time;
+use crate::clusters::{ClusterEnds, ClusterTable};
 use crate::graph::{LevelGraph, PlacePair};
+use crate::order_graph::Edge;
 use history_model::{Guarantee, Operation};
-use order_graph::Edge;
-use reg_clusters::{ClusterEnds, ClusterTable};
 use std::alloc::{AllocError, Global};
 
 /// An edge of the chain has no pair.

@@ -2,20 +2,20 @@
 ghost use Rattle.std.specs.Prelude.{IfOk, length, nat_lt, ◌≡◌, ◌≤◌, ◌*◌};
 ghost use Rattle.std.specs.List.{filter};
 ghost use Rattle.history_model.specs.Operations.{IsHistory};
-ghost use Rattle.reg_clusters.specs.Places.{AreFew, IsByCall};
-ghost use Rattle.reg_clusters.specs.Table.{IsClusterTable};
+ghost use Rattle.reg_levels.specs.Clusters.Places.{AreFew, IsByCall};
+ghost use Rattle.reg_levels.specs.Clusters.Table.{IsClusterTable};
 ghost use Rattle.reg_levels.specs.Decisions.{IsDecision};
 ghost use Rattle.reg_levels.specs.LevelGraph.{IsWholeGraph};
 ghost use Rattle.reg_levels.specs.Levels.{IsOfSessions};
 
 use crate::chain::write_calls;
+use crate::clusters::ClusterTable;
 use crate::decision::{Decision, LevelFault};
 use crate::early::first_too_early;
 use crate::graph::LevelGraph;
+use crate::order_graph::{Sorted, sort};
 use crate::steps::steps_of;
 use history_model::{Guarantee, Operation};
-use order_graph::{Sorted, sort};
-use reg_clusters::ClusterTable;
 use std::alloc::{AllocError, Global};
 
 /// Decides whether a register gives a guarantee of sessions (`Session`, `OwnWrites`, `Monotonic` or

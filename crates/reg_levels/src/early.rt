@@ -3,13 +3,13 @@ ghost use Rattle.std.specs.Prelude.{IfNone, IfSome, length, ◌<◌};
 ghost use Rattle.history_model.specs.Operations.{IsHistory};
 ghost use Rattle.history_model.specs.declared.operation.Operation.{Operation as AnOperation};
 ghost use Rattle.level_laws.specs.Leads.{IsCleanFor, IsTooEarly};
-ghost use Rattle.reg_clusters.specs.Places.{AreFew, IsAt};
-ghost use Rattle.reg_clusters.specs.Table.{IsClusterTable};
+ghost use Rattle.reg_levels.specs.Clusters.Places.{AreFew, IsAt};
+ghost use Rattle.reg_levels.specs.Clusters.Table.{IsClusterTable};
 ghost use Rattle.reg_levels.specs.Levels.{IsOfSessions};
 
 use crate::asked::is_too_early;
+use crate::clusters::ClusterTable;
 use history_model::{Guarantee, Operation};
-use reg_clusters::ClusterTable;
 
 /// The first read by its call, with the write of its value, if one must come before that.
 pub(crate) fn first_too_early(

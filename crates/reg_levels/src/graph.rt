@@ -2,7 +2,7 @@
 ghost use Rattle.std.specs.Prelude.{OnOk, ◌≡◌, ◌++◌, ◌∷◌, []};
 ghost use Rattle.reg_levels.specs.LevelGraph.{Joins, JoinsIf};
 
-use order_graph::Edge;
+use crate::order_graph::Edge;
 use std::alloc::{AllocError, Global};
 
 /// Two operations, by their places, of which the first must come before the second.

@@ -1,17 +1,17 @@
 //! The edges from the cluster of the initial write to all others.
 ghost use Rattle.std.specs.Prelude.{IfNone, IfSome, List, OnOk, length, slice_get, ◌+◌, ◌≡◌, ◌≤◌, ℕ};
 ghost use Rattle.history_model.specs.Operations.{IsHistory};
-ghost use Rattle.reg_clusters.specs.Places.{AreFew, IsAt, IsByCall};
-ghost use Rattle.reg_clusters.specs.Table.{IsClusterTable};
+ghost use Rattle.reg_levels.specs.Clusters.Places.{AreFew, IsAt, IsByCall};
+ghost use Rattle.reg_levels.specs.Clusters.Table.{IsClusterTable};
 ghost use Rattle.reg_levels.specs.LevelGraph.{Extends, InitialReaches, IsLevelGraph};
 ghost use Rattle.reg_levels.specs.Levels.{IsOfSessions};
 ghost use Rattle.history_model.specs.declared.operation.Operation.{Operation as AnOperation};
 ghost use Rattle.history_model.specs.declared.guarantee.Guarantee.{Guarantee};
 
+use crate::clusters::ClusterTable;
 use crate::graph::{LevelGraph, PlacePair};
+use crate::order_graph::Edge;
 use history_model::Operation;
-use order_graph::Edge;
-use reg_clusters::ClusterTable;
 use std::alloc::AllocError;
 
 impl LevelGraph {

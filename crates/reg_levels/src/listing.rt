@@ -8,15 +8,15 @@ ghost use Rattle.history_model.specs.declared.guarantee.Guarantee.{Guarantee};
 ghost use Rattle.history_model.specs.declared.operation.Operation.{Operation as AnOperation};
 ghost use Rattle.level_laws.specs.Leads.{IsCleanFor};
 ghost use Rattle.level_laws.specs.WriteOrders.{IsWriteOrder, is_read_of};
-ghost use Rattle.reg_clusters.specs.Places.{AreFew, IsByCall};
-ghost use Rattle.reg_clusters.specs.Table.{IsClusterTable};
-ghost use Rattle.reg_clusters.specs.declared.table.ClusterEnds.{ClusterEnds as AnEnds};
+ghost use Rattle.reg_levels.specs.Clusters.Places.{AreFew, IsByCall};
+ghost use Rattle.reg_levels.specs.Clusters.Table.{IsClusterTable};
+ghost use Rattle.reg_levels.specs.declared.clusters.table.ClusterEnds.{ClusterEnds as AnEnds};
 ghost use Rattle.reg_levels.specs.Decisions.{operations_of_places, writes_of};
 ghost use Rattle.reg_levels.specs.LevelGraph.{IsClusterWrite};
 ghost use Rattle.reg_levels.specs.ReadLists.{AreReadLists, GoAhead, IsReadNumber};
 
+use crate::clusters::ClusterTable;
 use history_model::Operation;
-use reg_clusters::ClusterTable;
 use std::alloc::{AllocError, Global};
 
 /// The reads of each cluster by place, in lists that end at the number of all operations.

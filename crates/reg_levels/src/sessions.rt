@@ -1,15 +1,15 @@
 //! The edges from the operations of a session to the next ones.
 ghost use Rattle.std.specs.Prelude.{IfNone, IfSome, List, OnOk, length, ◌+◌, ◌≡◌, ◌<◌, ◌≤◌, ℕ};
 ghost use Rattle.history_model.specs.Operations.{IsHistory};
-ghost use Rattle.reg_clusters.specs.Places.{AreFew, IsByCall};
-ghost use Rattle.reg_clusters.specs.declared.table.ClusterEnds.{ClusterEnds as AnEnds};
+ghost use Rattle.reg_levels.specs.Clusters.Places.{AreFew, IsByCall};
+ghost use Rattle.reg_levels.specs.declared.clusters.table.ClusterEnds.{ClusterEnds as AnEnds};
 ghost use Rattle.reg_levels.specs.LevelGraph.{Extends, IsInSession, IsLevelGraph, JoinsNext, SessionsReach};
 ghost use Rattle.reg_levels.specs.Levels.{IsOfSessions};
 
 use crate::asked::is_lasting;
 use crate::graph::{LevelGraph, PlacePair};
+use crate::order_graph::Edge;
 use history_model::{Guarantee, Operation};
-use order_graph::Edge;
 use std::alloc::{AllocError, Global};
 use std::collections::HashMap;
 

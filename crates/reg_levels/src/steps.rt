@@ -5,16 +5,16 @@ ghost use Rattle.history_model.specs.declared.guarantee.Guarantee.{Guarantee};
 ghost use Rattle.history_model.specs.declared.operation.Operation.{Operation as AnOperation};
 ghost use Rattle.level_laws.specs.Evidence.{IsCycle, Link};
 ghost use Rattle.level_laws.specs.Leads.{IsCleanFor};
-ghost use Rattle.order_graph.specs.Graph.{IsEdgeCycle, IsPath};
-ghost use Rattle.order_graph.specs.declared.edge.Edge.{Edge as AnEdge};
-ghost use Rattle.reg_clusters.specs.Places.{IsByCall};
-ghost use Rattle.reg_clusters.specs.Table.{IsClusterTable};
+ghost use Rattle.reg_levels.specs.OrderGraph.Graph.{IsEdgeCycle, IsPath};
+ghost use Rattle.reg_levels.specs.declared.order_graph.edge.Edge.{Edge as AnEdge};
+ghost use Rattle.reg_levels.specs.Clusters.Places.{IsByCall};
+ghost use Rattle.reg_levels.specs.Clusters.Table.{IsClusterTable};
 ghost use Rattle.reg_levels.specs.Decisions.{AreStepsOf};
 ghost use Rattle.reg_levels.specs.LevelGraph.{AreWriteCalls, IsLevelGraph, IsStepBy, IsTurnedCycle};
 
+use crate::clusters::ClusterEnds;
 use crate::decision::Step;
 use crate::graph::LevelGraph;
-use reg_clusters::ClusterEnds;
 use std::alloc::{AllocError, Global};
 
 /// The steps from cluster to cluster along a cycle of the graph's edges.

@@ -11,7 +11,7 @@ use Rattle.reg_report.specs.Answer.{IsAnswer, IsAnswerToLines}
 use Rattle.reg_report.specs.First.{IsReportBy}
 use Rattle.reg_intake.specs.declared.refusal.Refusal.{Refusal}
 use Rattle.reg_intake.specs.declared.refusal.Refusal.TheVariants.{TooLong}
-use Rattle.reg_text.specs.declared.report.Report.{Report}
+use Rattle.report_text.specs.declared.check.report.Report.{Report}
 
 pub answer-within : (first : Bool) (input : List ℕ) (answer : Result Report Refusal)
     → length input ≤ MAX_INPUT → IsAnswerToLines first (history_lines input) answer

@@ -4,14 +4,14 @@ use Rattle.std.proofs.Common.{drop-drop, slice_get, Option, Some, None, refl, sy
 use Rattle.std.proofs.Math.Seq.{drop-append_seam}
 use Rattle.std.proofs.lemmas.Option.{same_Some, slice_get_within}
 use Rattle.history_model.specs.History.{History}
-use Rattle.reg_pieces.specs.Judged.{IsJudged}
+use Rattle.reg_report.specs.Pieces.Judged.{IsJudged}
 use Rattle.reg_report.specs.Cuts.{HasCutsOf, HasTasks, cuts_ahead}
 use Rattle.history_model.specs.Operations.{register_of}
-use Rattle.reg_pieces.specs.Plan.{AreCuts, AreCutsOf, AreTasks, PlanShown}
-use Rattle.reg_pieces.specs.Slots.{AreDoneFrom, IsKept, PiecesShown}
-use Rattle.reg_pieces.specs.declared.judgement.Judgement.{Judgement}
-use Rattle.reg_pieces.specs.declared.tasks.Task.{Task}
-use Rattle.reg_pieces.specs.declared.tasks.Task.TheVariants.{Judge}
+use Rattle.reg_report.specs.Pieces.Plan.{AreCuts, AreCutsOf, AreTasks, PlanShown}
+use Rattle.reg_report.specs.Pieces.Slots.{AreDoneFrom, IsKept, PiecesShown}
+use Rattle.reg_report.specs.declared.pieces.judgement.Judgement.{Judgement}
+use Rattle.reg_report.specs.declared.pieces.tasks.Task.{Task}
+use Rattle.reg_report.specs.declared.pieces.tasks.Task.TheVariants.{Judge}
 use Rattle.reg_report.proofs.Cutting.{drop-head}
 
 -- what stands at a place of a list, and behind it

@@ -11,14 +11,14 @@ use Rattle.reg_zones.specs.Order.{IsOrder}
 use Rattle.history_model.specs.Placed.{PlacedOperation, placed, operations_of}
 use Rattle.reg_zones.specs.declared.placed.Placed.{Placed}
 use Rattle.history_model.proofs.Lists.{In-map}
-use Rattle.reg_pieces.specs.Judged.{IsJudged}
+use Rattle.reg_report.specs.Pieces.Judged.{IsJudged}
 use Rattle.reg_report.specs.Lines.{HaveCalls, HavePoints, call_line, point_line, lines_by}
 use Rattle.reg_report.specs.Meaning.{IsAtomicity, IsWholeAtomicity}
 use Rattle.reg_report.specs.Merged.{AreFirstOrders, AreGathered, IsMergedAnswer}
 use Rattle.reg_report.specs.Registers.{IsSomeNotAtomic}
 use Rattle.reg_report.specs.ArenaLaws.{ObeysLaws}
-use Rattle.reg_pieces.specs.declared.judgement.Judgement.TheVariants.{Order}
-use Rattle.reg_pieces.proofs.Pushed.{push-cases}
+use Rattle.reg_report.specs.declared.pieces.judgement.Judgement.TheVariants.{Order}
+use Rattle.reg_report.proofs.PieceLemmas.Pushed.{push-cases}
 use Rattle.reg_report.proofs.OrderLines.{calls-lines, points-lines, calls-there, points-there, placed-inside}
 use Rattle.reg_report.proofs.Locality.{each}
 

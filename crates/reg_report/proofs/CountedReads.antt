@@ -6,8 +6,8 @@ use Rattle.history_model.specs.Lamport.{completed_reads}
 use Rattle.history_model.specs.Operations.{register_of}
 use Rattle.reg_lamport.specs.Counts.{IsReadCount}
 use Rattle.reg_report.specs.Cuts.{HasCuts, HasCutsOf, cuts_ahead}
-use Rattle.reg_pieces.specs.Plan.{AreCutsOf, IsPlan, PlanShown}
-use Rattle.reg_pieces.specs.declared.tasks.Task.{Task}
+use Rattle.reg_report.specs.Pieces.Plan.{AreCutsOf, IsPlan, PlanShown}
+use Rattle.reg_report.specs.declared.pieces.tasks.Task.{Task}
 
 module _ (h : History) (cut r : ℕ) (plan : PlanShown) (p : IsPlan h cut plan) (o : Option ℕ)
     (at : slice_get plan.counts r ≡ Some o) where

@@ -7,13 +7,13 @@ use Rattle.history_model.specs.History.{History}
 use Rattle.reg_lamport.specs.declared.level.Level.TheVariants.{Safe, Regular}
 use Rattle.reg_lamport.proofs.Cuts.{named-cuts-join}
 use Rattle.reg_report.specs.Cuts.{HasCuts, cuts_ahead}
-use Rattle.reg_pieces.specs.BadReads.{AreFirstBad, joint_reads, no_reads}
-use Rattle.reg_pieces.specs.Judged.{no_judgement}
-use Rattle.reg_pieces.specs.Plan.{AreCuts, is_cut}
-use Rattle.reg_pieces.specs.Slots.{AreDoneFrom, IsKept, PiecesShown, without_judgement}
-use Rattle.reg_pieces.specs.declared.bad_reads.BadReads.{BadReads}
-use Rattle.reg_pieces.specs.declared.tasks.Task.{Task}
-use Rattle.reg_pieces.specs.declared.tasks.Task.TheVariants.{Judge, Reads, First}
+use Rattle.reg_report.specs.Pieces.BadReads.{AreFirstBad, joint_reads, no_reads}
+use Rattle.reg_report.specs.Pieces.Judged.{no_judgement}
+use Rattle.reg_report.specs.Pieces.Plan.{AreCuts, is_cut}
+use Rattle.reg_report.specs.Pieces.Slots.{AreDoneFrom, IsKept, PiecesShown, without_judgement}
+use Rattle.reg_report.specs.declared.pieces.bad_reads.BadReads.{BadReads}
+use Rattle.reg_report.specs.declared.pieces.tasks.Task.{Task}
+use Rattle.reg_report.specs.declared.pieces.tasks.Task.TheVariants.{Judge, Reads, First}
 use Rattle.history_model.proofs.Lists.{slice_get-set_other}
 
 head-dropped : {X : Type 0} (xs : List X) (i : ℕ) (y : X) (ys : List X) → drop i xs ≡ y ∷ ys

@@ -8,12 +8,12 @@ use Rattle.history_model.specs.History.{History}
 use Rattle.reg_report.specs.ReportText.{IsLinesText, IsTextOf}
 use Rattle.reg_report.specs.Meaning.{IsRegisterReport}
 use Rattle.reg_report.specs.Registers.{AreFindings}
-use Rattle.reg_text.specs.Text.{line_text, register_json, registers_text, report_text, summary_json}
+use Rattle.report_text.specs.Check.Text.{line_text, register_json, registers_text, report_text, summary_json}
 use Rattle.reg_report.specs.declared.findings.Finding.{Finding}
-use Rattle.reg_text.specs.declared.report.RegReport.{RegReport}
-use Rattle.reg_text.specs.declared.report.Report.{Report}
+use Rattle.report_text.specs.declared.check.report.RegReport.{RegReport}
+use Rattle.report_text.specs.declared.check.report.Report.{Report}
 use Rattle.reg_report.proofs.Found.{lines-of}
-use Rattle.reg_text.proofs.Joined.{lines-append}
+use Rattle.report_text.proofs.CheckLemmas.Joined.{lines-append}
 use Rattle.byte_ends.proofs.Pushing.{bytes-of}
 
 module _ (h : History) where

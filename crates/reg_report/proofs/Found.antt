@@ -4,12 +4,12 @@ use Rattle.std.proofs.Common.{get_or, Some, inl, inr, refl, sym, ap, subst, ◌�
 use Rattle.std.proofs.lemmas.List.{length_push}
 use Rattle.std.proofs.lemmas.Option.{same_Some, slice_get-get_or, slice_get_read, slice_get_within}
 use Rattle.history_model.specs.History.{History}
-use Rattle.reg_pieces.proofs.Pushed.{push-cases}
+use Rattle.reg_report.proofs.PieceLemmas.Pushed.{push-cases}
 use Rattle.reg_report.specs.ReportText.{AreLinesOf}
 use Rattle.reg_report.specs.Meaning.{IsRegisterReport}
 use Rattle.reg_report.specs.Registers.{AreFindings, AreFirstFindings, AreFirstLines, AreLines, IsFinding}
 use Rattle.reg_report.specs.declared.findings.Finding.{Finding}
-use Rattle.reg_text.specs.declared.report.RegReport.{RegReport}
+use Rattle.report_text.specs.declared.check.report.RegReport.{RegReport}
 
 module _ (h : History) where
   pub one-finding-more : (n : ℕ) (findings : List Finding) (finding : Finding) → AreFirstFindings h n findings

@@ -10,7 +10,7 @@ use Rattle.history_model.specs.Legal.{IsAtomic}
 use Rattle.history_model.specs.Operations.{operations, register_of}
 use Rattle.history_model.specs.Refusals.{events_of}
 use Rattle.history_model.specs.declared.ids.RegId.{RegId}
-use Rattle.reg_pieces.specs.Workers.{IsFirstFound}
+use Rattle.reg_report.specs.Pieces.Workers.{IsFirstFound}
 use Rattle.reg_report.specs.Answer.{IsAnswer, IsAnswerToLines, outcome_of}
 use Rattle.reg_report.specs.First.{AreFoundLines, IsReportBy}
 use Rattle.reg_report.specs.Meaning.{IsRegisterReport, IsWholeAtomicity}
@@ -18,8 +18,8 @@ use Rattle.reg_report.specs.Run.{IsOutcome}
 use Rattle.reg_report.specs.ArenaLaws.{ObeysLaws}
 use Rattle.reg_report.specs.declared.outcome.Outcome.TheVariants.{Atomic, NotAtomic}
 use Rattle.reg_intake.specs.declared.refusal.Refusal.TheVariants.{TooLong}
-use Rattle.reg_text.specs.declared.report.RegReport.{RegReport}
-use Rattle.reg_text.specs.declared.report.Report.{Report}
+use Rattle.report_text.specs.declared.check.report.RegReport.{RegReport}
+use Rattle.report_text.specs.declared.check.report.Report.{Report}
 use Rattle.reg_report.proofs.Locality.{each, nothing_atomic}
 
 module _ (h : History) (t : ObeysLaws h) (found : Option RegId) (regs : List RegReport)

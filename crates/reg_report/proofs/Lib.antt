@@ -1,3 +1,4 @@
+pub mod PieceLemmas
 mod Following
 mod Tallying
 mod Naming

@@ -24,12 +24,12 @@ use Rattle.reg_report.specs.Meaning.{IsVerdict, HasLine, HaveLines, ShowsFault, 
 use Rattle.reg_report.specs.Meaning.{IsInversionShown, IsInversionAnswer, IsWholeAtomicity}
 use Rattle.reg_report.specs.Meaning.{IsRegisterReport, IsReport, lines_of, points_of}
 use Rattle.reg_report.specs.Merged.{MergesBefore, IsWholeOrder}
-use Rattle.reg_text.specs.declared.report.Verdict.{Verdict}
-use Rattle.reg_text.specs.declared.report.Verdict.TheVariants.{Yes, No, SeveralWriters}
-use Rattle.reg_text.specs.declared.report.FaultLines.{FaultLines}
-use Rattle.reg_text.specs.declared.report.FaultLines.TheVariants.{Unwritten, Early, Zones}
-use Rattle.reg_text.specs.declared.report.RegReport.{RegReport}
-use Rattle.reg_text.specs.declared.report.Report.{Report}
+use Rattle.report_text.specs.declared.check.report.Verdict.{Verdict}
+use Rattle.report_text.specs.declared.check.report.Verdict.TheVariants.{Yes, No, SeveralWriters}
+use Rattle.report_text.specs.declared.check.report.FaultLines.{FaultLines}
+use Rattle.report_text.specs.declared.check.report.FaultLines.TheVariants.{Unwritten, Early, Zones}
+use Rattle.report_text.specs.declared.check.report.RegReport.{RegReport}
+use Rattle.report_text.specs.declared.check.report.Report.{Report}
 use Rattle.std.proofs.lemmas.Option.{same_Some}
 
 -- two lists of one length whose elements are the same place by place

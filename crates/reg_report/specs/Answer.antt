@@ -5,8 +5,8 @@ use Rattle.history_text.specs.Reading.{history_lines}
 use Rattle.history_model.specs.Refusals.{Line, IsRefusal, IsWellFormed, events_of}
 use Rattle.history_model.specs.History.{history_of}
 use Rattle.reg_report.specs.First.{IsReportBy}
-use Rattle.reg_text.specs.Text.{report_text}
-use Rattle.reg_text.specs.declared.report.Report.{Report}
+use Rattle.report_text.specs.Check.Text.{report_text}
+use Rattle.report_text.specs.declared.check.report.Report.{Report}
 use Rattle.reg_report.specs.declared.outcome.Outcome.{Outcome}
 use Rattle.reg_report.specs.declared.outcome.Outcome.TheVariants.{Atomic, NotAtomic}
 use Rattle.reg_intake.specs.declared.refusal.Refusal.{Refusal}

@@ -5,7 +5,7 @@ use Rattle.history_model.specs.declared.operation.Operation.{Operation}
 use Rattle.reg_report.specs.Meaning.{IsAtomicity, IsInversionAnswer}
 use Rattle.reg_report.specs.declared.register.Atomicity.{Atomicity}
 use Rattle.reg_report.specs.declared.register.Atomicity.TheVariants.{Yes, No}
-use Rattle.reg_text.specs.declared.report.Verdict.{Verdict}
+use Rattle.report_text.specs.declared.check.report.Verdict.{Verdict}
 
 -- `regular` is what the line says of regular
 abbrev pub IsAtomicityShown : History → List Operation → Verdict → Atomicity → Type 0

@@ -1,8 +1,8 @@
 -- Where the cuts of a register's reads stand among the tasks.
 use Rattle.std.specs.Prelude.{◌≡◌, ℕ, suc, List, [], ◌∷◌, ◌++◌, drop, slice_get, Option, Some}
-use Rattle.reg_pieces.specs.Plan.{AreCuts, AreCutsOf, AreTasks, PlanShown}
-use Rattle.reg_pieces.specs.declared.tasks.Task.{Task}
-use Rattle.reg_pieces.specs.declared.tasks.Task.TheVariants.{Judge, Reads, First}
+use Rattle.reg_report.specs.Pieces.Plan.{AreCuts, AreCutsOf, AreTasks, PlanShown}
+use Rattle.reg_report.specs.declared.pieces.tasks.Task.{Task}
+use Rattle.reg_report.specs.declared.pieces.tasks.Task.TheVariants.{Judge, Reads, First}
 
 -- how many cuts the tasks begin with
 abbrev pub cuts_ahead : List Task → ℕ

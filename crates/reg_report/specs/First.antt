@@ -3,10 +3,10 @@ use Rattle.std.specs.Prelude.{◌≡◌, ℕ, List, [], ◌∷◌, length, Bool,
 use Rattle.history_model.specs.History.{History}
 use Rattle.history_model.specs.Legal.{IsAtomic}
 use Rattle.history_model.specs.Operations.{calls, operations}
-use Rattle.reg_pieces.specs.Workers.{IsFirstFaulty}
+use Rattle.reg_report.specs.Pieces.Workers.{IsFirstFaulty}
 use Rattle.reg_report.specs.Meaning.{IsRegisterReport, IsReport}
-use Rattle.reg_text.specs.declared.report.RegReport.{RegReport}
-use Rattle.reg_text.specs.declared.report.Report.{Report}
+use Rattle.report_text.specs.declared.check.report.RegReport.{RegReport}
+use Rattle.report_text.specs.declared.check.report.Report.{Report}
 
 -- the whole history is atomic, and there is no line; or it isn't, and there is the line of the first
 -- register by appearance that isn't atomic

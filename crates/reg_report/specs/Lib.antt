@@ -1,3 +1,4 @@
+pub mod Pieces
 pub mod ByPoint
 pub mod Merged
 pub mod Meaning

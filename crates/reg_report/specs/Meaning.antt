@@ -20,12 +20,12 @@ use Rattle.history_model.specs.Placed.{PlacedOperation, placed}
 use Rattle.reg_zones.specs.declared.fault.Fault.{Fault}
 use Rattle.reg_zones.specs.declared.fault.Fault.TheVariants as fault
 use Rattle.reg_report.specs.Merged.{IsWholeOrder}
-use Rattle.reg_text.specs.declared.report.Verdict.{Verdict}
-use Rattle.reg_text.specs.declared.report.Verdict.TheVariants.{Yes, No, SeveralWriters}
-use Rattle.reg_text.specs.declared.report.FaultLines.{FaultLines}
-use Rattle.reg_text.specs.declared.report.FaultLines.TheVariants.{Unwritten, Early, Zones}
-use Rattle.reg_text.specs.declared.report.RegReport.{RegReport}
-use Rattle.reg_text.specs.declared.report.Report.{Report}
+use Rattle.report_text.specs.declared.check.report.Verdict.{Verdict}
+use Rattle.report_text.specs.declared.check.report.Verdict.TheVariants.{Yes, No, SeveralWriters}
+use Rattle.report_text.specs.declared.check.report.FaultLines.{FaultLines}
+use Rattle.report_text.specs.declared.check.report.FaultLines.TheVariants.{Unwritten, Early, Zones}
+use Rattle.report_text.specs.declared.check.report.RegReport.{RegReport}
+use Rattle.report_text.specs.declared.check.report.Report.{Report}
 
 -- ---- a register's operations
 

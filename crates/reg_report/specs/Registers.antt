@@ -3,7 +3,7 @@ use Rattle.std.specs.Prelude.{◌≡◌, ◌<◌, ℕ, List, length, slice_get, 
 use Rattle.std.specs.Global.{Global}
 use Rattle.history_model.specs.History.{History}
 use Rattle.history_model.specs.Legal.{IsAtomic}
-use Rattle.reg_pieces.specs.Judged.{IsJudged}
+use Rattle.reg_report.specs.Pieces.Judged.{IsJudged}
 use Rattle.reg_zones.specs.declared.placed.Placed.{Placed}
 use Rattle.reg_report.specs.Levels.{AreLevels}
 use Rattle.reg_report.specs.Lines.{call_line, lines_by}
@@ -12,7 +12,7 @@ use Rattle.reg_report.specs.Merged.{AreGathered, IsMergedAnswer}
 use Rattle.reg_report.specs.Tally.{IsTally}
 use Rattle.history_model.specs.Operations.{register_of}
 use Rattle.reg_report.specs.declared.findings.Finding.{Finding}
-use Rattle.reg_text.specs.declared.report.RegReport.{RegReport}
+use Rattle.report_text.specs.declared.check.report.RegReport.{RegReport}
 
 -- what is found of a register is so
 pub record IsFinding (h : History) (finding : Finding) : Type 0 where

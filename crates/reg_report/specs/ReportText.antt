@@ -6,11 +6,11 @@ use Rattle.reg_report.specs.Answer.{outcome_of}
 use Rattle.reg_report.specs.First.{IsReportBy}
 use Rattle.reg_report.specs.Meaning.{IsRegisterReport}
 use Rattle.reg_report.specs.Registers.{AreLines}
-use Rattle.reg_text.specs.Text.{registers_text, report_text}
+use Rattle.report_text.specs.Check.Text.{registers_text, report_text}
 use Rattle.reg_report.specs.declared.findings.Finding.{Finding}
 use Rattle.reg_report.specs.declared.findings_text.ReportText.{ReportText}
-use Rattle.reg_text.specs.declared.report.RegReport.{RegReport}
-use Rattle.reg_text.specs.declared.report.Report.{Report}
+use Rattle.report_text.specs.declared.check.report.RegReport.{RegReport}
+use Rattle.report_text.specs.declared.check.report.Report.{Report}
 
 -- the lines of the registers of which something is found, place by place
 abbrev pub AreLinesOf : History → List Finding → List RegReport → Type 0

@@ -8,7 +8,7 @@ use crate::history::history_report;
 use crate::lone_thread::find_one_by_one;
 use reg_arena::Arena;
 use reg_intake::{Refusal, arena_alone};
-use reg_text::Report;
+use report_text::check::Report;
 use std::alloc::{AllocError, Global};
 
 /// The report of an accepted history, made by this thread.

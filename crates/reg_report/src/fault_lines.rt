@@ -5,8 +5,8 @@ ghost use Rattle.reg_report.specs.Named.{AreOpers, HasOpers};
 
 use history_model::Oper;
 use reg_arena::Arena;
-use reg_text::FaultLines;
 use reg_zones::Fault;
+use report_text::check::FaultLines;
 
 /// The line of an operation's call; 0 of an initial write.
 pub(crate) fn line(arena: &Arena, oper: Oper) -> u32

@@ -2,20 +2,20 @@
 ghost use Rattle.std.specs.Prelude.{◌≡◌, ◌+◌, ◌<◌, ℕ, false, length, IfOk};
 ghost use Rattle.std.specs.Thread.{IsSync};
 ghost use Rattle.history_model.specs.Operations.{calls, register_of};
-ghost use Rattle.reg_pieces.specs.Judged.{IsJudged};
-ghost use Rattle.reg_pieces.specs.Plan.{IsPlan};
-ghost use Rattle.reg_pieces.specs.Slots.{AreDone, AreDoneFrom};
+ghost use Rattle.reg_report.specs.Pieces.Judged.{IsJudged};
+ghost use Rattle.reg_report.specs.Pieces.Plan.{IsPlan};
+ghost use Rattle.reg_report.specs.Pieces.Slots.{AreDone, AreDoneFrom};
 ghost use Rattle.reg_report.specs.Cuts.{HasTasks};
 ghost use Rattle.reg_report.specs.Levels.{AreLevels};
 ghost use Rattle.reg_report.specs.Registers.{AreFindings};
 ghost use Rattle.reg_report.specs.Tally.{AreCallCounts, AreTallies};
 
 use crate::levels::{Levels, levels_of};
+use crate::pieces::{Gate, Judgement, Pieces, Plan, Settings, do_pieces, plan};
 use crate::tally::{CallCounts, Tally, count_calls};
 use history_model::RegId;
 use parallel::both;
 use reg_arena::Arena;
-use reg_pieces::{Gate, Judgement, Pieces, Plan, Settings, do_pieces, plan};
 use std::alloc::{AllocError, Global};
 use std::thread::Threads;
 

@@ -6,7 +6,7 @@ ghost use Rattle.history_model.specs.Operations.{calls};
 ghost use Rattle.reg_report.specs.ReportText.{IsLinesText, IsReportText, IsTextOf};
 ghost use Rattle.reg_report.specs.Meaning.{IsWholeAtomicity};
 ghost use Rattle.reg_report.specs.Registers.{AreFindings, IsFinding};
-ghost use Rattle.reg_text.specs.Text.{line_text, summary_json};
+ghost use Rattle.report_text.specs.Check.Text.{line_text, summary_json};
 
 use crate::findings::Finding;
 use crate::history::whole_order_in_parts;
@@ -14,7 +14,7 @@ use crate::outcome::Outcome;
 use crate::register::register_report;
 use parallel::{REGISTER_PARTS, both, map_parts, share_size};
 use reg_arena::Arena;
-use reg_text::{Lines, Registers, Report, put_register_line, summary_in_parts};
+use report_text::check::{Lines, Registers, Report, put_register_line, summary_in_parts};
 use std::alloc::{AllocError, Global};
 use std::thread::Threads;
 

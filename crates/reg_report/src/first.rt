@@ -1,18 +1,18 @@
 //! The report of the first register that isn't atomic.
 ghost use Rattle.std.specs.Prelude.{◌≡◌, ◌<◌, true, length, is_none, IfOk};
-ghost use Rattle.reg_pieces.specs.Workers.{IsFirstFound};
+ghost use Rattle.reg_report.specs.Pieces.Workers.{IsFirstFound};
 ghost use Rattle.reg_report.specs.First.{AreFoundLines, IsFirstReport};
 ghost use Rattle.reg_report.specs.Meaning.{IsRegisterReport};
 ghost use Rattle.reg_report.specs.Tally.{AreTallies};
 
 use crate::arena_laws::arena_laws;
 use crate::lone_thread::finding_of;
+use crate::pieces::{Gate, Settings, first_faulty, plan};
 use crate::register::register_report;
 use crate::tally::{Tally, count_calls};
 use history_model::RegId;
 use reg_arena::Arena;
-use reg_pieces::{Gate, Settings, first_faulty, plan};
-use reg_text::{RegReport, Registers, Report};
+use report_text::check::{RegReport, Registers, Report};
 use std::alloc::{AllocError, Global};
 use std::thread::Threads;
 

@@ -11,12 +11,12 @@ use crate::findings::Finding;
 use crate::merged_lines::merged_lines_in_parts;
 use crate::merged_order::merge_gathered;
 use crate::order_lines::order_lines;
+use crate::pieces::Judgement;
 use crate::register::register_report;
 use parallel::{both, map_each};
 use reg_arena::Arena;
-use reg_pieces::Judgement;
-use reg_text::{Lines, RegReport, Registers, Report};
 use reg_zones::Placed;
+use report_text::check::{Lines, RegReport, Registers, Report};
 use std::alloc::{AllocError, Global};
 use std::thread::Threads;
 

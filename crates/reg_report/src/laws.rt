@@ -9,7 +9,7 @@ ghost use Rattle.history_model.specs.Placed.{PlacedOperation, operations_of};
 ghost use Rattle.reg_report.specs.First.{IsFirstReport};
 ghost use Rattle.reg_report.specs.Meaning.{IsEachAtomic, IsReport};
 ghost use Rattle.reg_report.specs.Merged.{IsMerged};
-ghost use Rattle.reg_text.specs.declared.report.Report.{Report as AReport};
+ghost use Rattle.report_text.specs.declared.check.report.Report.{Report as AReport};
 
 use history_model::{accepted_is_history, names_are_unique, registers_are_numbered};
 

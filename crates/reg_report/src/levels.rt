@@ -5,16 +5,16 @@ ghost use Rattle.reg_lamport.specs.Levels.{IsFirstBadNamed};
 ghost use Rattle.reg_report.specs.Cuts.{HasCuts, HasCutsOf, cuts_ahead};
 ghost use Rattle.reg_report.specs.Levels.{AreLevels, IsLevelFinding};
 ghost use Rattle.history_model.specs.Operations.{register_of};
-ghost use Rattle.reg_pieces.specs.BadReads.{AreFirstBad};
-ghost use Rattle.reg_pieces.specs.Plan.{IsPlan};
-ghost use Rattle.reg_pieces.specs.Slots.{AreDoneFrom};
+ghost use Rattle.reg_report.specs.Pieces.BadReads.{AreFirstBad};
+ghost use Rattle.reg_report.specs.Pieces.Plan.{IsPlan};
+ghost use Rattle.reg_report.specs.Pieces.Slots.{AreDoneFrom};
 
 use crate::fault_lines::line;
+use crate::pieces::{BadReads, Pieces, Plan};
 use history_model::{EvId, Oper, RegId};
 use reg_arena::Arena;
 use reg_lamport::Level;
-use reg_pieces::{BadReads, Pieces, Plan};
-use reg_text::Verdict;
+use report_text::check::Verdict;
 
 /// What is said of one level: the verdict, and if it is no, the line of the read that breaks the level.
 #[derive(Clone, Copy, Debug, PartialEq, Eq)]

@@ -7,11 +7,11 @@ ghost use Rattle.reg_report.specs.Tally.{AreTallies};
 
 use crate::findings::Finding;
 use crate::levels::{Levels, levels_by, several_writers};
+use crate::pieces::{BadReads, judge};
 use crate::tally::{CallCounts, Tally, count_calls};
 use history_model::RegId;
 use reg_arena::Arena;
 use reg_lamport::{reads, single_writer};
-use reg_pieces::{BadReads, judge};
 use std::alloc::{AllocError, Global};
 
 /// Both levels of a register, from all its reads.

@@ -5,8 +5,8 @@ ghost use Rattle.reg_report.specs.Merged.{AreGathered, AreOrders, IsMergedAnswer
 
 use crate::arena_laws::arena_laws;
 use crate::by_point::by_point;
+use crate::pieces::Order;
 use reg_arena::Arena;
-use reg_pieces::Order;
 use reg_zones::Placed;
 use std::alloc::{AllocError, Global};
 

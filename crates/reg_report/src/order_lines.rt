@@ -5,8 +5,8 @@ ghost use Rattle.reg_report.specs.Lines.{HaveCalls, HavePoints, call_line, point
 use history_model::{EvId, Oper};
 use parallel::{OPERATIONS_PER_PART, map_parts};
 use reg_arena::Arena;
-use reg_text::Lines;
 use reg_zones::Placed;
+use report_text::check::Lines;
 use std::alloc::{AllocError, Global};
 use std::thread::Threads;
 

@@ -1,5 +1,5 @@
 //! Whether a history is atomic, as the caller is told it.
-use reg_text::Report;
+use report_text::check::Report;
 
 /// Whether the history is atomic.
 #[derive(Clone, Copy, Debug, PartialEq, Eq)]

@@ -1,6 +1,6 @@
 //! The line of one register.
 ghost use Rattle.std.specs.Prelude.{false, IfOk};
-ghost use Rattle.reg_pieces.specs.Judged.{IsJudged};
+ghost use Rattle.reg_report.specs.Pieces.Judged.{IsJudged};
 ghost use Rattle.reg_report.specs.Atomicity.{IsAtomicityShown};
 ghost use Rattle.history_model.specs.Lamport.{HasSingleWriter};
 ghost use Rattle.reg_lamport.specs.declared.level.Level.TheVariants.{Regular};
@@ -9,7 +9,7 @@ ghost use Rattle.reg_zones.specs.Inversions.{IsRegular};
 ghost use Rattle.reg_report.specs.Levels.{IsLevelFinding};
 ghost use Rattle.reg_report.specs.Meaning.{IsInversionAnswer, IsRegisterReport};
 ghost use Rattle.reg_report.specs.Registers.{IsFinding};
-ghost use Rattle.reg_text.specs.declared.report.Verdict.TheVariants.{Yes};
+ghost use Rattle.report_text.specs.declared.check.report.Verdict.TheVariants.{Yes};
 ghost use Rattle.history_model.specs.Operations.{register_of};
 
 use crate::arena_laws::arena_laws;
@@ -17,13 +17,13 @@ use crate::fault_lines::{fault_lines, lines};
 use crate::findings::Finding;
 use crate::levels::LevelFinding;
 use crate::order_lines::{order_lines, point_lines};
+use crate::pieces::{Judgement, Order};
 use history_model::RegId;
 use history_text::Name;
 use reg_arena::Arena;
-use reg_pieces::{Judgement, Order};
-use reg_text::{FaultLines, Lines, RegReport, Verdict};
 use reg_zones::laws::inversions_decide;
 use reg_zones::{Fault, inversion_of};
+use report_text::check::{FaultLines, Lines, RegReport, Verdict};
 use std::alloc::{AllocError, Global};
 
 /// What a register's line says of whether it is atomic.

@@ -5,10 +5,10 @@ ghost use Rattle.history_text.specs.declared.limits.TheConstants.{MAX_INPUT};
 ghost use Rattle.reg_report.specs.Run.{IsOfInput, IsRefusedWhole, Reports, ReportsBeginning, TellsAtomic};
 
 use crate::outcome::Outcome;
-use crate::report_text::text_by;
+use crate::pieces::{Gate, Settings};
+use crate::report_bytes::text_by;
 use byte_ends::{Sink, Source, deliver};
 use reg_intake::{Refusal, arena_of};
-use reg_pieces::{Gate, Settings};
 use std::alloc::Global;
 use std::random::RandomSource;
 use std::thread::Threads;

@@ -6,7 +6,7 @@ use Rattle.clap.specs.declared.builder.command.Command.{Command}
 use Rattle.clap.specs.declared.parser.matches.ArgMatches.{ArgMatches}
 use Rattle.command_words.specs.Words.{number_named, up_to}
 use Rattle.command_words.proofs.Numbers.{HasNumber, IsReady, number_found}
-use Rattle.reg_pieces.specs.declared.settings.TheConstants.{MAX_CUT, MAX_WORKERS}
+use Rattle.reg_report.specs.declared.pieces.settings.TheConstants.{MAX_CUT, MAX_WORKERS}
 use Rattle.regcheck.specs.Words.{command_line}
 
 ready : IsReady command_line

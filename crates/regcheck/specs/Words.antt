@@ -2,7 +2,7 @@
 use Rattle.std.specs.Prelude.{codes}
 use Rattle.clap.specs.Words.{App, Rule, with_rule}
 use Rattle.command_words.specs.Words.{file_rule, flag_rule, option_rule, program, up_to}
-use Rattle.reg_pieces.specs.declared.settings.TheConstants.{MAX_CUT, MAX_WORKERS}
+use Rattle.reg_report.specs.declared.pieces.settings.TheConstants.{MAX_CUT, MAX_WORKERS}
 
 -- how many workers there are, 4 by default
 abbrev pub workers_rule : Rule

@@ -3,7 +3,7 @@ ghost use Rattle.std.specs.Prelude.{◌≡◌, ◌≤◌, codes, map, option_map
 ghost use Rattle.clap.specs.Words.{app_of};
 ghost use Rattle.command_words.specs.Words.{file_named, number_named, text_given};
 ghost use Rattle.command_words.specs.Words.{IsFaultless, IsFlag, IsTaken};
-ghost use Rattle.reg_pieces.specs.declared.settings.TheConstants.{MAX_CUT, MAX_WORKERS};
+ghost use Rattle.reg_report.specs.declared.pieces.settings.TheConstants.{MAX_CUT, MAX_WORKERS};
 ghost use Rattle.regcheck.specs.Words.{command_line};
 
 use clap::Command;

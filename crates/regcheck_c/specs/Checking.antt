@@ -2,8 +2,8 @@
 use Rattle.std.specs.Prelude.{◌≡◌, ◌⊎◌, ℕ, List, false, if◌then◌else◌, Ok, Err}
 use Rattle.reg_intake.specs.Refusals.{line_of, number_of, other_of}
 use Rattle.reg_intake.specs.declared.refusal.Refusal.{Refusal}
-use Rattle.reg_text.specs.Text.{report_text}
-use Rattle.reg_text.specs.declared.report.Report.{Report}
+use Rattle.report_text.specs.Check.Text.{report_text}
+use Rattle.report_text.specs.declared.check.report.Report.{Report}
 use Rattle.reg_report.specs.Answer.{IsAnswer, IsRefused}
 use Rattle.reg_report.specs.Run.{IsOutcome}
 use Rattle.reg_report.specs.declared.outcome.Outcome.TheVariants.{Atomic, NotAtomic}

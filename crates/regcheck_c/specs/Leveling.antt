@@ -1,10 +1,10 @@
 -- What the call for `reglevel` answers (this project's own interface; docs/embedding.md).
 use Rattle.std.specs.Prelude.{◌≡◌, ◌⊎◌, ℕ, List, [], ◌∷◌, slice_get, Option, Some, None, true, false}
 use Rattle.reg_intake.specs.declared.refusal.Refusal.{Refusal}
-use Rattle.level_text.specs.declared.report.Required.{Required}
-use Rattle.level_text.specs.declared.report.Required.TheVariants.{Each, Causal}
-use Rattle.level_text.specs.declared.report.LevelName.TheVariants.{Atomic, Regular, Session}
-use Rattle.level_text.specs.declared.report.LevelName.TheVariants.{OwnWrites, Monotonic, Sequential}
+use Rattle.report_text.specs.declared.level.report.Required.{Required}
+use Rattle.report_text.specs.declared.level.report.Required.TheVariants.{Each, Causal}
+use Rattle.report_text.specs.declared.level.report.LevelName.TheVariants.{Atomic, Regular, Session}
+use Rattle.report_text.specs.declared.level.report.LevelName.TheVariants.{OwnWrites, Monotonic, Sequential}
 use Rattle.level_report.specs.Answer.{IsAnswerText, IsOutcome, IsRefused}
 use Rattle.level_report.specs.declared.outcome.Outcome.{Outcome}
 use Rattle.level_report.specs.declared.outcome.Outcome.TheVariants.{Kept, Broken, Unknown}

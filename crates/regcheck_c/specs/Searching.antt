@@ -1,13 +1,13 @@
 -- What the calls for `regsearch` answer (this project's own interface; docs/embedding.md).
 use Rattle.std.specs.Prelude.{◌≡◌, ◌⊎◌, ℕ, List, min, ◌==◌, if◌then◌else◌, Ok, Err}
 use Rattle.history_model.specs.Table.{events_of}
-use Rattle.cas_history.specs.Input.{history_lines}
+use Rattle.reg_intake.specs.CasHistory.Input.{history_lines}
 use Rattle.reg_intake.specs.Refusals.{line_of, number_of, other_of}
 use Rattle.reg_intake.specs.declared.refusal.Refusal.{Refusal}
-use Rattle.search_text.specs.Text.{report_text}
-use Rattle.search_text.specs.declared.report.Outcome.{Outcome}
-use Rattle.search_text.specs.declared.report.Outcome.TheVariants.{Yes, No, Unknown}
-use Rattle.search_text.specs.declared.report.Report.{Report}
+use Rattle.report_text.specs.Search.Text.{report_text}
+use Rattle.report_text.specs.declared.search.report.Outcome.{Outcome}
+use Rattle.report_text.specs.declared.search.report.Outcome.TheVariants.{Yes, No, Unknown}
+use Rattle.report_text.specs.declared.search.report.Report.{Report}
 use Rattle.search_report.specs.Answer.{IsAnswer, IsRefused}
 use Rattle.search_report.specs.Meaning.{IsWholeOutcome}
 use Rattle.regcheck_c.specs.Called.{answer_of_refusal, IsPut}

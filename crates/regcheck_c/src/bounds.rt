@@ -2,7 +2,7 @@
 ghost use Rattle.std.specs.Prelude.{◌≡◌};
 ghost use Rattle.regcheck_c.specs.Searching.{configurations_of, steps_of};
 
-use cas_search::{Bounds, MAX_CONFIGURATIONS, MAX_STEPS};
+use register_search::{Bounds, MAX_CONFIGURATIONS, MAX_STEPS};
 
 /// The bounds of a search: 0 stands for what the program does if nobody says
 /// otherwise, and more than the most for the most.

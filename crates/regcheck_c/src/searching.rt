@@ -8,7 +8,7 @@ ghost use Rattle.search_report.specs.Answer.{IsRefused};
 use crate::answer::{Answer, NO, UNKNOWN, YES, refused};
 use crate::bounds::bounds_of;
 use crate::place::{put_message, put_report};
-use cas_search::Bounds;
+use register_search::Bounds;
 use search_report::{Outcome, Refusal, check_alone, message, text};
 use std::alloc::Global;
 

@@ -72,7 +72,7 @@ const LEVELS_AND_MORE: &str =
 "#;
 
 // A call, its history, and the status, number, line, other line and report of its answer.
-const ANSWERS: [(Call, &str, u32, u32, u32, u32, &str); 24] = [
+const ANSWERS: [(Call, &str, u32, u32, u32, u32, &str); 23] = [
     (Call::Check, WRITE_AND_READ, YES, 0, 0, 0, CHECKED),
     (
         Call::Check,
@@ -175,17 +175,6 @@ const ANSWERS: [(Call, &str, u32, u32, u32, u32, &str); 24] = [
         0,
         r#"{"atomic":"no","cas":0,"fault":{"call":1,"kind":"unwritten"},"pending":0,"reads":1,"register":"x","writes":0}
 {"atomic":"no","operations":1,"registers":1}
-"#,
-    ),
-    (
-        Call::Search(1, 0),
-        WRITES_AND_CAS,
-        UNKNOWN,
-        0,
-        0,
-        0,
-        r#"{"atomic":"unknown","cas":1,"gave_up":{"bound":"steps"},"pending":0,"reads":0,"register":"x","writes":2}
-{"atomic":"unknown","operations":3,"registers":1}
 "#,
     ),
     (Call::Search(0, 0), "\n[]\n", REFUSED, 3, 2, 0, ""),

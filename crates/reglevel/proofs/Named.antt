@@ -5,8 +5,8 @@ use Rattle.std.specs.List.{list_any}
 use Rattle.std.specs.Str.{bytes_eq}
 use Rattle.std.proofs.lemmas.Slice.Eq.{bytes_eq-Decides}
 use Rattle.clap.specs.Words.{Text}
-use Rattle.level_text.specs.Words.{required_word}
-use Rattle.level_text.specs.declared.report.Required.{Required}
+use Rattle.report_text.specs.Level.Words.{required_word}
+use Rattle.report_text.specs.declared.level.report.Required.{Required}
 use Rattle.reglevel.specs.Words.{all_levels, AreLevelWords, Borrowed}
 
 abbrev is_word : Text → Text → Bool

@@ -4,9 +4,9 @@ use Rattle.clap.specs.Words.{fault_of}
 use Rattle.clap.specs.declared.error.kind.ErrorKind.TheVariants.{DisplayHelp, DisplayVersion}
 use Rattle.clap.proofs.OnLiterals.{clap_on_literals}
 use Rattle.command_words.specs.Words.{IsTaken, file_named, number_named, text_given}
-use Rattle.level_text.specs.Words.{required_word}
-use Rattle.level_text.specs.declared.report.LevelName.TheVariants.{Atomic, OwnWrites}
-use Rattle.level_text.specs.declared.report.Required.TheVariants.{Each, Causal}
+use Rattle.report_text.specs.Level.Words.{required_word}
+use Rattle.report_text.specs.declared.level.report.LevelName.TheVariants.{Atomic, OwnWrites}
+use Rattle.report_text.specs.declared.level.report.Required.TheVariants.{Each, Causal}
 use Rattle.reglevel.specs.Words.{all_levels, command_line, AreLevelWords, Borrowed}
 
 -- the words of the levels, wherever they stand

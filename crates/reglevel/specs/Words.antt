@@ -5,11 +5,11 @@ use Rattle.clap.specs.Words.{App, Rule, Text, with_rule}
 use Rattle.clap.specs.declared.builder.value_parser.ValueParser.TheVariants.{Names}
 use Rattle.command_words.specs.Words.{file_rule, flag_rule, option_rule, program, up_to}
 use Rattle.level_report.specs.declared.settings.TheConstants.{MAX_WORKERS}
-use Rattle.level_text.specs.Words.{required_word}
-use Rattle.level_text.specs.declared.report.Required.{Required}
-use Rattle.level_text.specs.declared.report.Required.TheVariants.{Each, Causal}
-use Rattle.level_text.specs.declared.report.LevelName.TheVariants.{Atomic, Regular, Session}
-use Rattle.level_text.specs.declared.report.LevelName.TheVariants.{OwnWrites, Monotonic, Sequential}
+use Rattle.report_text.specs.Level.Words.{required_word}
+use Rattle.report_text.specs.declared.level.report.Required.{Required}
+use Rattle.report_text.specs.declared.level.report.Required.TheVariants.{Each, Causal}
+use Rattle.report_text.specs.declared.level.report.LevelName.TheVariants.{Atomic, Regular, Session}
+use Rattle.report_text.specs.declared.level.report.LevelName.TheVariants.{OwnWrites, Monotonic, Sequential}
 
 -- words as a program has them
 abbrev pub Borrowed : Type 0

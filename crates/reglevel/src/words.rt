@@ -4,7 +4,7 @@ ghost use Rattle.clap.specs.Words.{app_of};
 ghost use Rattle.command_words.specs.Words.{file_named, number_named, program, text_given};
 ghost use Rattle.command_words.specs.Words.{IsFaultless, IsFlag, IsTaken};
 ghost use Rattle.level_report.specs.declared.settings.TheConstants.{MAX_WORKERS};
-ghost use Rattle.level_text.specs.Words.{required_word};
+ghost use Rattle.report_text.specs.Level.Words.{required_word};
 ghost use Rattle.reglevel.specs.Words.{command_line, AreLevelWords};
 
 use clap::Command;

@@ -1,7 +1,7 @@
 -- The exit status after a report (this project's profile; README.md has the table).
 use Rattle.std.specs.Prelude.{ℕ}
-use Rattle.search_text.specs.declared.report.Outcome.{Outcome}
-use Rattle.search_text.specs.declared.report.Outcome.TheVariants.{Yes, No, Unknown}
+use Rattle.report_text.specs.declared.search.report.Outcome.{Outcome}
+use Rattle.report_text.specs.declared.search.report.Outcome.TheVariants.{Yes, No, Unknown}
 
 -- 0 if the history is atomic, 1 if it isn't, and 6 if that isn't known
 abbrev pub status_for : Outcome → ℕ

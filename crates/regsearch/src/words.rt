@@ -8,10 +8,10 @@ ghost use Rattle.configurations.specs.declared.bounds.TheConstants.{MAX_CONFIGUR
 ghost use Rattle.search_report.specs.declared.settings.TheConstants.{MAX_WORKERS};
 ghost use Rattle.regsearch.specs.Words.{command_line};
 
-use cas_search::{Bounds, MAX_CONFIGURATIONS, MAX_STEPS};
 use clap::builder::ValueParser;
 use clap::{Command, value_parser};
 use command_words::{WordsFault, file, file_in, option, read};
+use register_search::{Bounds, MAX_CONFIGURATIONS, MAX_STEPS};
 use search_report::{MAX_WORKERS, Settings};
 use std::alloc::{AllocError, Global};
 

@@ -3,15 +3,15 @@ use Rattle.std.proofs.Common.{◌≡◌, ◌≤◌, ℕ, List, length, Result, O
 use Rattle.std.specs.Prelude.{MatchBool}
 use Rattle.history_text.specs.declared.limits.TheConstants.{MAX_INPUT}
 use Rattle.history_model.specs.Table.{events_of}
-use Rattle.cas_history.specs.declared.history.History.{History}
+use Rattle.reg_intake.specs.declared.cas_history.history.History.{History}
 use Rattle.history_model.specs.declared.refusal.BuildError.{BuildError}
 use Rattle.history_model.specs.declared.refusal.BuildError.TheVariants.{Refused, Memory}
-use Rattle.cas_history.specs.Input.{IsHistoryOfInput, history_lines}
+use Rattle.reg_intake.specs.CasHistory.Input.{IsHistoryOfInput, history_lines}
 use Rattle.reg_intake.specs.Refusals.{of_build}
-use Rattle.cas_history.specs.Taken.{IsNoHistory}
+use Rattle.reg_intake.specs.CasHistory.Taken.{IsNoHistory}
 use Rattle.reg_intake.specs.declared.refusal.Refusal.{Refusal}
 use Rattle.reg_intake.specs.declared.refusal.Refusal.TheVariants.{At, TooLong}
-use Rattle.search_text.specs.declared.report.Report.{Report}
+use Rattle.report_text.specs.declared.search.report.Report.{Report}
 use Rattle.search_report.specs.Answer.{IsAnswer, IsAnswerToLines, IsRefused}
 use Rattle.search_report.specs.Meaning.{IsReport}
 use Rattle.std.proofs.lemmas.Bool.{le-ltb}

@@ -9,15 +9,15 @@ use Rattle.history_text.specs.declared.event.AnyEvent.{AnyEvent}
 use Rattle.history_model.specs.Legal.{IsAtomic}
 use Rattle.history_model.specs.Operations.{AreTimed, initial_write, of_register}
 use Rattle.history_model.proofs.Locality.{each_decides}
-use Rattle.cas_history.specs.History.{IsHistoryOf, calls_of, operations, register_names}
-use Rattle.cas_history.specs.declared.history.History.{History}
-use Rattle.cas_history.proofs.Timed.{any-calls-timed}
-use Rattle.cas_history.proofs.Initials.{named as of-named, none as of-none}
-use Rattle.search_text.specs.declared.report.Outcome.{Outcome}
-use Rattle.search_text.specs.declared.report.Outcome.TheVariants as outcome
-use Rattle.search_text.specs.declared.report.Atomicity.{Atomicity}
-use Rattle.search_text.specs.declared.report.Atomicity.TheVariants.{Yes, No, Unknown}
-use Rattle.search_text.specs.declared.report.RegisterReport.{RegisterReport}
+use Rattle.reg_intake.specs.CasHistory.History.{IsHistoryOf, calls_of, operations, register_names}
+use Rattle.reg_intake.specs.declared.cas_history.history.History.{History}
+use Rattle.reg_intake.proofs.CasHistoryLemmas.Timed.{any-calls-timed}
+use Rattle.reg_intake.proofs.CasHistoryLemmas.Initials.{named as of-named, none as of-none}
+use Rattle.report_text.specs.declared.search.report.Outcome.{Outcome}
+use Rattle.report_text.specs.declared.search.report.Outcome.TheVariants as outcome
+use Rattle.report_text.specs.declared.search.report.Atomicity.{Atomicity}
+use Rattle.report_text.specs.declared.search.report.Atomicity.TheVariants.{Yes, No, Unknown}
+use Rattle.report_text.specs.declared.search.report.RegisterReport.{RegisterReport}
 use Rattle.search_report.specs.Meaning.{IsAtomicity, IsRegisterReport, IsWholeOutcome}
 use Rattle.search_report.specs.Meaning.{event_lines, event_words, is_no, is_unknown, outcome_of}
 use Rattle.search_report.specs.Registers.{AreFirstLines, IsLine}

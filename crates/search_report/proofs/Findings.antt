@@ -6,11 +6,11 @@ use Rattle.std.proofs.lemmas.List.{length_push}
 use Rattle.std.proofs.lemmas.Option.{same_Some, slice_get_within}
 use Rattle.history_model.proofs.Lists.{slice_get-push, slice_get-push_other, slice_get_inside}
 use Rattle.history_model.specs.declared.operation.Operation.{Operation}
-use Rattle.cas_history.specs.declared.history.History.{History}
+use Rattle.reg_intake.specs.declared.cas_history.history.History.{History}
 use Rattle.search_report.specs.Registers.{AreFindingsOf, AreFirstLines, IsFinding, IsLine}
 use Rattle.search_report.specs.declared.register.Finding.{Finding}
 use Rattle.search_report.proofs.OneMore.{first-left, none-left}
-use Rattle.search_text.specs.declared.report.RegisterReport.{RegisterReport}
+use Rattle.report_text.specs.declared.search.report.RegisterReport.{RegisterReport}
 
 pub no-line : (h : History) → AreFirstLines h 0 []
 no-line h = record {

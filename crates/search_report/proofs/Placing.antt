@@ -9,9 +9,9 @@ use Rattle.history_model.specs.Lists.{In}
 use Rattle.history_model.proofs.Lists.{slice_get_inside}
 use Rattle.history_model.specs.Cut.{cut_at}
 use Rattle.history_model.specs.declared.operation.Operation.{Operation}
-use Rattle.cas_search.specs.Timeline.{AreCalls, operations_at}
-use Rattle.cas_search.proofs.Checking.{at-end}
-use Rattle.cas_search.proofs.Known.{from-known}
+use Rattle.register_search.specs.Timeline.{AreCalls, operations_at}
+use Rattle.register_search.proofs.Checking.{at-end}
+use Rattle.register_search.proofs.Known.{from-known}
 use Rattle.search_report.specs.Meaning.{lines_of}
 
 pub line-more : (ops : List Operation) (places done after : List ℕ) (i : ℕ) → i < length places

@@ -13,14 +13,14 @@ use Rattle.history_model.specs.Operations.{AreTimed, initial_write, reply_of}
 use Rattle.history_model.proofs.Placed.{within_life}
 use Rattle.history_model.specs.Placed.{PlacedOperation, placed}
 use Rattle.history_model.specs.Timed.{AreTimedCalls}
-use Rattle.cas_search.specs.Checked.{IsCheckedOrder}
-use Rattle.cas_search.specs.Timeline.{AreCalls, AreTimes, operations_at}
-use Rattle.cas_search.specs.Unwritten.{IsFirstUnwritten}
-use Rattle.cas_search.specs.Verdicts.{IsBefore, IsRefuted, IsVerdict}
-use Rattle.cas_search.specs.declared.verdict.Verdict.{Verdict}
-use Rattle.search_text.specs.declared.report.Atomicity.{Atomicity}
-use Rattle.search_text.specs.declared.report.Atomicity.TheVariants.{Yes, No}
-use Rattle.search_text.specs.declared.report.Fault.TheVariants.{Search, Unwritten}
+use Rattle.register_search.specs.Checked.{IsCheckedOrder}
+use Rattle.register_search.specs.Timeline.{AreCalls, AreTimes, operations_at}
+use Rattle.register_search.specs.Unwritten.{IsFirstUnwritten}
+use Rattle.register_search.specs.Verdicts.{IsBefore, IsRefuted, IsVerdict}
+use Rattle.register_search.specs.declared.verdict.Verdict.{Verdict}
+use Rattle.report_text.specs.declared.search.report.Atomicity.{Atomicity}
+use Rattle.report_text.specs.declared.search.report.Atomicity.TheVariants.{Yes, No}
+use Rattle.report_text.specs.declared.search.report.Fault.TheVariants.{Search, Unwritten}
 use Rattle.search_report.specs.Meaning.{IsAtomicity, IsOrderBefore, line_at, lines_of}
 use Rattle.search_report.specs.Registers.{AreLinesBefore, AreOpenLines, IsReplyLine}
 use Rattle.search_report.proofs.Placing.{known-lines}
@@ -151,11 +151,3 @@ pub told-of : {E : Type 0} (lines : List ℕ) (ops : List Operation) (verdict : 
     → IfOk result (λ a. (r : ℕ) → AreTimedCalls r ops → IsFirstUnwritten ops None → IsAtomicity lines r ops a)
 told-of lines ops verdict (Ok a) told right = λ r timed first. told r timed first (right r timed)
 told-of lines ops verdict (Err e) told right = tt
-
--- what a search finds if no value is unwritten
-pub searched-of : {E : Type 0} (lines : List ℕ) (ops : List Operation) (result : Result Atomicity E)
-    → IsFirstUnwritten ops None
-    → IfOk result (λ a. (r : ℕ) → AreTimedCalls r ops → IsFirstUnwritten ops None → IsAtomicity lines r ops a)
-    → IfOk result (λ a. (r : ℕ) → AreTimedCalls r ops → IsAtomicity lines r ops a)
-searched-of lines ops (Ok a) first found = λ r timed. found r timed first
-searched-of lines ops (Err e) first found = tt

@@ -2,14 +2,14 @@
 use Rattle.std.specs.Prelude.{◌≡◌, ◌⊎◌, ℕ, List, length, nat_lt, MatchBool, Result, Ok, Err}
 use Rattle.history_text.specs.declared.limits.TheConstants.{MAX_INPUT}
 use Rattle.history_model.specs.Table.{events_of}
-use Rattle.cas_history.specs.Refusals.{Line, IsRefusal, IsWellFormed}
-use Rattle.cas_history.specs.Input.{history_lines}
+use Rattle.reg_intake.specs.CasHistory.Refusals.{Line, IsRefusal, IsWellFormed}
+use Rattle.reg_intake.specs.CasHistory.Input.{history_lines}
 use Rattle.reg_intake.specs.declared.refusal.Refusal.{Refusal}
 use Rattle.reg_intake.specs.declared.refusal.Refusal.TheVariants.{At, TooLong, InputFailed}
 use Rattle.reg_intake.specs.declared.refusal.Refusal.TheVariants.{NoRoom, OutputFailed}
-use Rattle.search_text.specs.Text.{report_text}
-use Rattle.search_text.specs.declared.report.Outcome.{Outcome}
-use Rattle.search_text.specs.declared.report.Report.{Report}
+use Rattle.report_text.specs.Search.Text.{report_text}
+use Rattle.report_text.specs.declared.search.report.Outcome.{Outcome}
+use Rattle.report_text.specs.declared.search.report.Report.{Report}
 use Rattle.search_report.specs.Meaning.{IsReport}
 
 -- of the lines of an input: a report of their history if they are well formed,

@@ -13,16 +13,20 @@ use Rattle.history_model.specs.Cut.{cut_at}
 use Rattle.history_model.specs.Legal.{IsLegal, IsAtomic}
 use Rattle.history_model.specs.Operations.{initial_write, reply_of}
 use Rattle.history_model.specs.Placed.{IsWithinLife, PlacedOperation, placed}
-use Rattle.cas_history.specs.History.{call_word, register_names, calls, calls_of, operations}
-use Rattle.cas_search.specs.Unwritten.{IsFirstUnwritten}
-use Rattle.search_text.specs.declared.report.Outcome.{Outcome}
-use Rattle.search_text.specs.declared.report.Outcome.TheVariants as outcome
-use Rattle.search_text.specs.declared.report.Atomicity.{Atomicity}
-use Rattle.search_text.specs.declared.report.Atomicity.TheVariants.{Yes, No, Unknown}
-use Rattle.search_text.specs.declared.report.Fault.{Fault}
-use Rattle.search_text.specs.declared.report.Fault.TheVariants.{Unwritten, Search}
-use Rattle.search_text.specs.declared.report.RegisterReport.{RegisterReport}
-use Rattle.search_text.specs.declared.report.Report.{Report}
+use Rattle.reg_intake.specs.CasHistory.History.{call_word, register_names, calls, calls_of, operations}
+use Rattle.register_search.specs.Unwritten.{IsFirstUnwritten}
+use Rattle.report_text.specs.declared.search.report.Outcome.{Outcome}
+use Rattle.report_text.specs.declared.search.report.Outcome.TheVariants as outcome
+use Rattle.report_text.specs.declared.search.report.Atomicity.{Atomicity}
+use Rattle.report_text.specs.declared.search.report.Atomicity.TheVariants.{Yes, No, Unknown}
+use Rattle.report_text.specs.declared.search.report.ReachedBound.{ReachedBound}
+use Rattle.report_text.specs.declared.search.report.ReachedBound.TheVariants.{Configurations, Steps}
+use Rattle.configurations.specs.declared.bounds.Bound.{Bound}
+use Rattle.configurations.specs.declared.bounds.Bound.TheVariants as bound
+use Rattle.report_text.specs.declared.search.report.Fault.{Fault}
+use Rattle.report_text.specs.declared.search.report.Fault.TheVariants.{Unwritten, Search}
+use Rattle.report_text.specs.declared.search.report.RegisterReport.{RegisterReport}
+use Rattle.report_text.specs.declared.search.report.Report.{Report}
 
 -- ---- counts
 
@@ -138,6 +142,11 @@ abbrev pub IsFaultShown : List ℕ → ℕ → List Operation → Fault → Type
 IsFaultShown lines r ops (Unwritten call) = IsUnwrittenShown ops call
 IsFaultShown lines r ops (Search asks before reply) =
     IsFirstUnwritten ops None × IsHopelessShown lines r ops asks.items before reply
+
+-- the bound at which a search gave up, as its report names it
+abbrev pub reached_bound : Bound → ReachedBound
+reached_bound bound.Configurations = Configurations
+reached_bound bound.Steps = Steps
 
 -- A yes has a legal order, and after a no there is none. The search is asked only if no value is
 -- unwritten; if it gave up, no more is said.

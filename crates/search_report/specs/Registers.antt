@@ -5,13 +5,13 @@ use Rattle.std.specs.List.{AllZip, filter}
 use Rattle.history_text.specs.declared.event.OpWord.{OpWord}
 use Rattle.history_model.specs.declared.operation.Operation.{Operation}
 use Rattle.history_model.specs.Operations.{reply_of}
-use Rattle.cas_search.specs.Timeline.{operations_at}
+use Rattle.register_search.specs.Timeline.{operations_at}
 use Rattle.history_model.specs.Timed.{AreTimedCalls}
-use Rattle.cas_history.specs.declared.history.History.{History}
+use Rattle.reg_intake.specs.declared.cas_history.history.History.{History}
 use Rattle.search_report.specs.Meaning.{is_cas, is_open_at, is_pending, is_read}
 use Rattle.search_report.specs.Meaning.{is_write, line_at, lines_of, IsAtomicity}
 use Rattle.search_report.specs.declared.register.Finding.{Finding}
-use Rattle.search_text.specs.declared.report.RegisterReport.{RegisterReport}
+use Rattle.report_text.specs.declared.search.report.RegisterReport.{RegisterReport}
 
 -- the line of the reply to the operation at this place, if there is one
 abbrev pub IsReplyLine : List ℕ → List Operation → ℕ → ℕ → Type 0

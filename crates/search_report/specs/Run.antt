@@ -3,14 +3,14 @@ use Rattle.std.specs.Prelude.{ℕ, List, Err, Option}
 use Rattle.std.specs.Io.KnownBytes.{Appends}
 use Rattle.history_model.specs.Table.{events_of}
 use Rattle.reg_intake.specs.Ends.{IsAll}
-use Rattle.cas_history.specs.Input.{history_lines}
+use Rattle.reg_intake.specs.CasHistory.Input.{history_lines}
 use Rattle.reg_intake.specs.declared.refusal.Refusal.{Refusal}
 use Rattle.reg_intake.specs.declared.refusal.Refusal.TheVariants.{At, TooLong, InputFailed}
 use Rattle.reg_intake.specs.declared.refusal.Refusal.TheVariants.{NoRoom, OutputFailed}
 use Rattle.search_report.specs.Answer.{IsAnswer, IsAnswerText}
 use Rattle.byte_ends.specs.Ends.{AppendsBeginning}
 use Rattle.search_report.specs.Meaning.{IsWholeOutcome}
-use Rattle.search_text.specs.declared.report.Outcome.{Outcome}
+use Rattle.report_text.specs.declared.search.report.Outcome.{Outcome}
 
 -- a refusal of the input itself, and not of a failure or of memory
 abbrev pub IsOfInput : Refusal → Type 0

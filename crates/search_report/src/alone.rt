@@ -2,16 +2,16 @@
 ghost use Rattle.std.specs.Prelude.{◌≡◌, ◌<◌, length, Ok, Err, IfOk, IfErr};
 ghost use Rattle.history_text.specs.declared.limits.TheConstants.{MAX_INPUT};
 ghost use Rattle.history_model.specs.Table.{events_of};
-ghost use Rattle.cas_history.specs.Input.{history_lines};
+ghost use Rattle.reg_intake.specs.CasHistory.Input.{history_lines};
 ghost use Rattle.search_report.specs.Answer.{IsAnswer, IsRefused};
 ghost use Rattle.search_report.specs.Meaning.{IsWholeOutcome};
 
 use crate::history::report_alone;
-use cas_history::history_in;
-use cas_search::Bounds;
 use history_text::MAX_INPUT;
 use reg_intake::Refusal;
-use search_text::Report;
+use reg_intake::cas_history::history_in;
+use register_search::Bounds;
+use report_text::search::Report;
 use std::alloc::Global;
 
 /// A report of the history in the input; [`text`](crate::text) gives the bytes that

@@ -2,7 +2,7 @@
 ghost use Rattle.std.specs.Prelude.{◌≡◌, length, List, IfOk};
 ghost use Rattle.std.specs.List.{list_any};
 ghost use Rattle.history_text.specs.declared.event.AnyEvent.{AnyEvent as AnEvent};
-ghost use Rattle.cas_history.specs.History.{IsHistoryOf};
+ghost use Rattle.reg_intake.specs.CasHistory.History.{IsHistoryOf};
 ghost use Rattle.search_report.specs.Meaning.{IsReport, is_no as is_no_of, outcome_of};
 ghost use Rattle.search_report.specs.Meaning.{is_unknown as is_unknown_of};
 ghost use Rattle.search_report.specs.Registers.{AreFindings};
@@ -11,9 +11,9 @@ use crate::register::{Finding, is_unknown};
 use crate::registers::lines_of_registers;
 use crate::rounds::{findings, findings_alone};
 use crate::settings::Settings;
-use cas_history::History;
-use cas_search::Bounds;
-use search_text::{Atomicity, Outcome, RegisterReport, Report};
+use reg_intake::cas_history::History;
+use register_search::Bounds;
+use report_text::search::{Atomicity, Outcome, RegisterReport, Report};
 use std::alloc::{AllocError, Global};
 use std::thread::Threads;
 

@@ -30,6 +30,6 @@ mod whole;
 pub use alone::check_alone;
 pub use byte_ends::{FromReader, FromWriter, IoFail, MemSink, MemSource, Sink, Source};
 pub use reg_intake::{Refusal, message};
-pub use search_text::{Atomicity, Fault, Outcome, RegisterReport, Report, text};
+pub use report_text::search::{Atomicity, Fault, Outcome, RegisterReport, Report, text};
 pub use settings::{MAX_WORKERS, Settings};
 pub use whole::run;

@@ -1,7 +1,7 @@
 //! Operations and times by lines.
 ghost use Rattle.std.specs.Prelude.{◌≡◌, ◌++◌, ◌∷◌, [], map, IfOk, OnOk};
 ghost use Rattle.std.specs.List.{filter};
-ghost use Rattle.cas_search.specs.Timeline.{operations_at};
+ghost use Rattle.register_search.specs.Timeline.{operations_at};
 ghost use Rattle.search_report.specs.Meaning.{is_open_at, is_unanswered, line_at, lines_of};
 
 use history_model::Operation;

@@ -2,16 +2,18 @@
 ghost use Rattle.std.specs.Prelude.{◌≡◌, ℕ, None, IfOk};
 ghost use Rattle.history_model.specs.Timed.{AreTimedCalls};
 ghost use Rattle.search_report.specs.Meaning.{IsAtomicity, IsFaultShown, is_unknown as is_unknown_of};
+ghost use Rattle.search_report.specs.Meaning.{reached_bound};
 ghost use Rattle.search_report.specs.Registers.{AreLinesBefore, AreOpenLines, IsFinding, IsReplyLine};
-ghost use Rattle.cas_search.specs.Unwritten.{IsFirstUnwritten};
-ghost use Rattle.cas_search.specs.Verdicts.{IsVerdict};
+ghost use Rattle.register_search.specs.Checked.{IsCheckedOrder};
+ghost use Rattle.register_search.specs.Unwritten.{IsFirstUnwritten};
+ghost use Rattle.register_search.specs.Verdicts.{IsVerdict};
 
 use crate::counts;
 use crate::lines::{line_of_time, lines_of_open, lines_of_places, lines_of_times};
-use cas_search::{Bounds, Verdict, first_unwritten, timeline};
-use distinct_values::decide;
 use history_model::Operation;
-use search_text::{Atomicity, Fault};
+use register_search::distinct_values::decide;
+use register_search::{Bound, Bounds, Verdict, first_unwritten, order_in_turn, timeline};
+use report_text::search::{Atomicity, Fault, ReachedBound};
 use std::alloc::{AllocError, Global};
 
 /// What a report says of a register by the times of its operations: all but its name and its counts by words.
@@ -62,6 +64,33 @@ fn lines_before(
     }
 }
 
+/// The bound at which a search gave up, as its report names it.
+fn reached(bound: Bound) -> ReachedBound
+    ensures { result ≡ reached_bound bound }
+{
+    match bound {
+        Bound::Configurations => ReachedBound::Configurations,
+        Bound::Steps => ReachedBound::Steps,
+    }
+}
+
+/// A legal order and its points, by lines.
+fn order_by_lines(
+    alloc: Global,
+    lines: &[u32],
+    ops: &[Operation],
+    order: &[u32],
+    points: &[u32],
+) -> Result<Atomicity, AllocError>
+    ensures { IfOk result (λ atomicity. (r : ℕ) → AreTimedCalls r ops.now
+        → IsCheckedOrder r ops.now order.now points.now → IsAtomicity lines.now r ops.now atomicity) }
+{
+    Ok(Atomicity::Yes {
+        order: lines_of_places(alloc, ops, order)?,
+        points: lines_of_times(alloc, lines, points)?,
+    })
+}
+
 /// What the verdict of a search says, by lines.
 fn atomicity_by_lines(
     alloc: Global,
@@ -73,16 +102,13 @@ fn atomicity_by_lines(
         → IsVerdict r ops.now verdict → IsAtomicity lines.now r ops.now atomicity) }
 {
     match verdict {
-        Verdict::Yes { order, points } => Ok(Atomicity::Yes {
-            order: lines_of_places(alloc, ops, &order)?,
-            points: lines_of_times(alloc, lines, &points)?,
-        }),
+        Verdict::Yes { order, points } => order_by_lines(alloc, lines, ops, &order, &points),
         Verdict::No { reply, before } => Ok(Atomicity::No(Fault::Search {
             asks: open_lines(alloc, ops, reply)?,
             before: lines_before(alloc, ops, before)?,
             reply: reply_line(lines, ops, reply),
         })),
-        Verdict::Unknown(bound) => Ok(Atomicity::Unknown(bound)),
+        Verdict::Unknown(bound) => Ok(Atomicity::Unknown(reached(bound))),
     }
 }
 
@@ -112,6 +138,9 @@ fn atomicity(
     ensures { IfOk result (λ atomicity. (r : ℕ) → AreTimedCalls r ops.now
         → IsAtomicity lines.now r ops.now atomicity) }
 {
+    if let Some(legal) = order_in_turn(alloc, ops)? {
+        return order_by_lines(alloc, lines, ops, &legal.order, &legal.points);
+    }
     match first_unwritten(alloc, ops)? {
         Some(place) => Ok(Atomicity::No(Fault::Unwritten {
             call: ops[place].line,

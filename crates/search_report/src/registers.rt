@@ -4,10 +4,10 @@ ghost use Rattle.search_report.specs.Registers.{AreFindings, AreFirstLines, IsFi
 
 use crate::counts;
 use crate::register::Finding;
-use cas_history::History;
 use history_model::Operation;
 use history_text::{Name, OpWord};
-use search_text::RegisterReport;
+use reg_intake::cas_history::History;
+use report_text::search::RegisterReport;
 use std::alloc::{AllocError, Global};
 
 /// A register's line, of its name, the words of the history's calls, its operations and what is found of it.

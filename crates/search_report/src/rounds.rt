@@ -7,10 +7,10 @@ ghost use Rattle.search_report.specs.Registers.{AreFindings, AreFindingsOf, IsFi
 
 use crate::register::{Finding, finding_of, is_unknown};
 use crate::settings::Settings;
-use cas_history::History;
-use cas_search::Bounds;
 use history_model::Operation;
 use parallel::{map_each, share_of};
+use reg_intake::cas_history::History;
+use register_search::Bounds;
 use std::alloc::{AllocError, Global};
 use std::thread::Threads;
 

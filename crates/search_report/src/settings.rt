@@ -1,7 +1,7 @@
 //! How many workers a run has, and how far its search may go.
 ghost use Rattle.std.specs.Prelude.{◌≡◌, ◌≤◌, None, Some};
 
-use cas_search::Bounds;
+use register_search::Bounds;
 
 /// The most workers that share the registers.
 pub const MAX_WORKERS: u32 = 16;

@@ -3,16 +3,16 @@ ghost use Rattle.std.specs.Prelude.{◌≡◌, ◌≢◌, ◌⊎◌, ◌-◌, �
 ghost use Rattle.std.specs.Prelude.{length, Err, IfOk, OnOk, IfErr, IfSome};
 ghost use Rattle.history_text.specs.declared.limits.TheConstants.{MAX_INPUT};
 ghost use Rattle.reg_intake.specs.Ends.{IsAll};
-ghost use Rattle.cas_history.specs.Input.{IsRefusedOf};
+ghost use Rattle.reg_intake.specs.CasHistory.Input.{IsRefusedOf};
 ghost use Rattle.search_report.specs.Answer.{IsAnswerText};
 ghost use Rattle.search_report.specs.Run.{IsOfInput, IsRefusedWhole, Reports, ReportsBeginning, TellsAtomic};
 
 use crate::history::report;
 use crate::settings::Settings;
 use byte_ends::{Sink, Source, deliver};
-use cas_history::history_of;
 use reg_intake::Refusal;
-use search_text::{Outcome, text};
+use reg_intake::cas_history::history_of;
+use report_text::search::{Outcome, text};
 use std::alloc::Global;
 use std::thread::Threads;
 

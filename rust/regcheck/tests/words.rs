@@ -6,9 +6,9 @@ const UNWRITTEN: &str = r#"{"process":1,"event":"call","op":"read","register":"x
 {"process":1,"event":"reply","value":7}
 "#;
 const TWICE: &str = r#"{"process":1,"event":"call","op":"write","register":"x","value":1}
+{"process":2,"event":"call","op":"write","register":"x","value":1}
 {"process":1,"event":"reply"}
-{"process":1,"event":"call","op":"write","register":"x","value":1}
-{"process":1,"event":"reply"}
+{"process":2,"event":"reply"}
 "#;
 
 // A regkit that says its words and the last line of the report, and ends as `regkit explain` does.

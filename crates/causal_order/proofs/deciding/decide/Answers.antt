@@ -1,8 +1,8 @@
 use Rattle.std.proofs.Common.{subst}
 use Rattle.std.specs.Result.{MatchResult}
-use Rattle.causal_laws.specs.Fault.CausalFault.{unwritten}
-use Rattle.session_clocks.specs.Sessions.{IsFirstUnwritten, IsSessionTable}
-use Rattle.session_clocks.specs.declared.table.SessionTable.{SessionTable}
+use Rattle.level_laws.specs.CausalFault.CausalFault.{unwritten}
+use Rattle.causal_order.specs.SessionClocks.Sessions.{IsFirstUnwritten, IsSessionTable}
+use Rattle.causal_order.specs.declared.session_clocks.table.SessionTable.{SessionTable}
 use Rattle.causal_order.proofs.deciding.decide.Goals as goal
 
 pub returns-in-Err : goal.returns-in-Err

@@ -1,6 +1,6 @@
 use Rattle.std.proofs.Common.{◌<◌, ◌*◌, ◌^◌, length, refl, sym, subst}
-use Rattle.order_graph.specs.Graph.{AreAmong, IsForwardOrder, IsSorted}
-use Rattle.order_graph.specs.declared.sorting.Sorted.TheVariants.{Order}
+use Rattle.reg_levels.specs.OrderGraph.Graph.{AreAmong, IsForwardOrder, IsSorted}
+use Rattle.reg_levels.specs.declared.order_graph.sorting.Sorted.TheVariants.{Order}
 use Rattle.causal_order.specs.CausalGraph.{AreLearned}
 use Rattle.causal_order.proofs.Answering.{broken-decision, graph-among, reads-within, work-beyond}
 use Rattle.causal_order.proofs.Learning.{forward-learning, learning-of, table-range}

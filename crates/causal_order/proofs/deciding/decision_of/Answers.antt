@@ -1,6 +1,6 @@
 use Rattle.std.proofs.Common.{length, sym, subst}
-use Rattle.order_graph.specs.Graph.{AreAmong, IsForwardOrder, IsSorted}
-use Rattle.order_graph.specs.declared.sorting.Sorted.TheVariants.{Order}
+use Rattle.reg_levels.specs.OrderGraph.Graph.{AreAmong, IsForwardOrder, IsSorted}
+use Rattle.reg_levels.specs.declared.order_graph.sorting.Sorted.TheVariants.{Order}
 use Rattle.causal_order.proofs.Answering.{broken-decision, graph-among, reads-within}
 use Rattle.causal_order.proofs.Learning.{table-range}
 use Rattle.causal_order.proofs.Ordering.{causal-order}

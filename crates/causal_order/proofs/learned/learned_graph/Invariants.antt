@@ -1,7 +1,7 @@
 use Rattle.std.proofs.Common.{List, length, ◌≤◌, ◌*◌}
 use Rattle.causal_order.specs.CausalGraph.{AreLearned, IsCausalGraph}
 use Rattle.history_model.specs.declared.operation.Operation.{Operation}
-use Rattle.session_clocks.specs.Sessions.{IsCalledInOrder, IsSessionTable}
+use Rattle.causal_order.specs.SessionClocks.Sessions.{IsCalledInOrder, IsSessionTable}
 use Rattle.causal_order.proofs.learned.learned_graph.Given as goal
 
 abbrev pub invariant-loop-place : goal.invariant-loop-place

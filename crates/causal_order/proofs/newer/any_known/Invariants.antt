@@ -1,7 +1,7 @@
 use Rattle.std.proofs.Common.{List, None}
 use Rattle.history_model.specs.declared.operation.Operation.{Operation}
-use Rattle.session_clocks.specs.WriteIndex.{IsWriteIndex}
-use Rattle.session_clocks.specs.declared.table.SessionTable.{SessionTable}
+use Rattle.causal_order.specs.SessionClocks.WriteIndex.{IsWriteIndex}
+use Rattle.causal_order.specs.declared.session_clocks.table.SessionTable.{SessionTable}
 use Rattle.causal_order.specs.Covering.{IsAnyKnown}
 use Rattle.causal_order.proofs.newer.any_known.Given as goal
 

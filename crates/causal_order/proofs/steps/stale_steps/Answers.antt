@@ -1,6 +1,6 @@
 use Rattle.std.proofs.Common.{Some, arith, refl, ap, ◌∙◌}
 use Rattle.std.proofs.lemmas.Option.{slice_get_read, slice_get_within}
-use Rattle.session_clocks.specs.Sessions.{HasSource}
+use Rattle.causal_order.specs.SessionClocks.Sessions.{HasSource}
 use Rattle.causal_order.proofs.Answering.{found-if, stale-cycle}
 use Rattle.causal_order.proofs.Learning.{table-range}
 use Rattle.causal_order.proofs.steps.stale_steps.Goals as goal

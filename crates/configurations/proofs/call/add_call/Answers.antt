@@ -12,23 +12,15 @@ returns-then-is_content-clause-able g c = λ es _ _ l.
 pub returns-then-is_free-clause-able : goal.returns-then-is_free-clause-able
 returns-then-is_free-clause-able g c = λ es _ none l.
     let s = c.requires.table.each c.args.slot c.requires.slot in
-    free_able c.args.table.now c.args.config.now (record {
-      value = c.args.config.now.value;
-      owed = c.args.config.now.owed;
+    free_able c.args.table.now c.args.config.now (record c.args.config.now {
       free = c.insert.new.self;
-      last = c.args.config.now.last;
-      cost = c.args.config.now.cost;
     }) c.args.slot es (slice_get-get_or c.args.table.now.calls.items c.args.slot 0 s.placed) none
     (c.insert.ensures.same s.small) c.insert.ensures.others refl refl l
 
 pub returns-else-is_free-clause-able : goal.returns-else-is_free-clause-able
 returns-else-is_free-clause-able g c = λ es none _ l.
     let s = c.requires.table.each c.args.slot c.requires.slot in
-    owed_able c.args.table.now c.args.config.now (record {
-      value = c.args.config.now.value;
+    owed_able c.args.table.now c.args.config.now (record c.args.config.now {
       owed = c.insert-else-is_free.new.self;
-      free = c.args.config.now.free;
-      last = c.args.config.now.last;
-      cost = c.args.config.now.cost;
     }) c.args.slot es (slice_get-get_or c.args.table.now.calls.items c.args.slot 0 s.placed) none
     (c.insert-else-is_free.ensures.same s.small) c.insert-else-is_free.ensures.others refl refl l

@@ -1,5 +1,5 @@
 use Rattle.std.proofs.Common.{refl, subst}
-use Rattle.causal_laws.proofs.Refuted.{refuted}
+use Rattle.level_laws.proofs.CausalLemmas.Refuted.{refuted}
 use Rattle.causal_order.specs.Decisions.{IsDecision}
 use Rattle.level_report.proofs.causal.said_of.Goals as goal
 

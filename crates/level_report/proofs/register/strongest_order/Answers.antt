@@ -1,6 +1,6 @@
 use Rattle.std.proofs.Common.{refl, subst, sym, Some}
 use Rattle.history_model.specs.declared.guarantee.Guarantee.TheVariants as guarantee
-use Rattle.level_text.specs.declared.report.LevelName.TheVariants as level
+use Rattle.report_text.specs.declared.level.report.LevelName.TheVariants as level
 use Rattle.level_report.specs.Guarantees.{or_else}
 use Rattle.level_report.specs.Ordered.{IsOrdered}
 use Rattle.level_report.specs.declared.guarantees.Ordered.{Ordered}

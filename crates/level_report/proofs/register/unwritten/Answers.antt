@@ -1,7 +1,7 @@
 use Rattle.std.proofs.Common.{refl, subst, sym, ap, ◌∙◌, ℕ, List, None, Some, inl, inr, Bool, true, false}
 use Rattle.history_model.specs.declared.operation.Operation.{Operation}
-use Rattle.level_text.specs.declared.report.Freshness.{Freshness}
-use Rattle.level_text.specs.declared.report.KeptGuarantees.{KeptGuarantees}
+use Rattle.report_text.specs.declared.level.report.Freshness.{Freshness}
+use Rattle.report_text.specs.declared.level.report.KeptGuarantees.{KeptGuarantees}
 use Rattle.level_report.specs.Freshness.{without_counts}
 use Rattle.level_report.specs.Guarantees.{AreGuarantees, IsOrderShown}
 use Rattle.level_report.specs.Ordered.{no_guarantee}

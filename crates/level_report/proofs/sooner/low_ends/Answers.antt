@@ -1,6 +1,6 @@
 use Rattle.std.proofs.Common.{◌≡◌, ◌<◌, ◌+◌, ◌∙◌, ap, arith, length, refl, slice_get, Some, subst, sym}
-use Rattle.reg_clusters.proofs.Pushes.{get-read}
-use Rattle.reg_gap.proofs.Listing.{number-few}
+use Rattle.reg_levels.proofs.ClusterLemmas.Pushes.{get-read}
+use Rattle.reg_levels.proofs.GapLemmas.Listing.{number-few}
 use Rattle.level_report.specs.Ordered.{AreFirstLowEnds}
 use Rattle.level_report.proofs.ByLowEnds.{low-push}
 use Rattle.level_report.proofs.sooner.low_ends.Goals as goal

@@ -1,10 +1,10 @@
 use Rattle.std.proofs.Common.{◌∙◌, ap, arith, length, subst, sym}
 use Rattle.history_model.specs.Operations.{operations}
-use Rattle.level_text.specs.declared.report.LevelsReport.{LevelsReport}
+use Rattle.report_text.specs.declared.level.report.LevelsReport.{LevelsReport}
 use Rattle.level_report.specs.Answer.{IsOutcomeOf}
 use Rattle.level_report.specs.Causal.{IsCausalSaid}
 use Rattle.level_report.specs.Meaning.{IsReport}
-use Rattle.level_text.specs.declared.report.LevelName.TheVariants.{Atomic}
+use Rattle.report_text.specs.declared.level.report.LevelName.TheVariants.{Atomic}
 use Rattle.level_report.specs.Totals.{all_say, AreTotals, outcome_said}
 use Rattle.level_report.specs.declared.settings.Asked.{Asked}
 use Rattle.level_report.proofs.Telling.{atomic-causes, outcome-is}

@@ -1,6 +1,6 @@
 use Rattle.std.proofs.Common.{◌<◌, sym, ◌∙◌, arith}
 use Rattle.history_text.specs.declared.limits.TheConstants.{MAX_EVENTS}
-use Rattle.event_lists.specs.EventLists.{write_kept}
+use Rattle.reg_arena.specs.Lists.EventLists.{write_kept}
 use Rattle.reg_arena.proofs.Times.{later-fits}
 use Rattle.reg_arena.proofs.value_times.last_time.Goals as goal
 use Rattle.reg_arena.proofs.value_times.last_time.Goals.{in-Some, in-None}

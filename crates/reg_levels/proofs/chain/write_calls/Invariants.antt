@@ -1,7 +1,7 @@
 use Rattle.std.proofs.Common.{◌≡◌, ◌<◌, ℕ, Some, length, slice_get}
 use Rattle.history_model.specs.declared.operation.Operation.{Operation}
-use Rattle.reg_clusters.specs.Places.{IsAt}
-use Rattle.reg_clusters.specs.declared.table.ClusterEnds.{ClusterEnds}
+use Rattle.reg_levels.specs.Clusters.Places.{IsAt}
+use Rattle.reg_levels.specs.declared.clusters.table.ClusterEnds.{ClusterEnds}
 use Rattle.reg_levels.proofs.chain.write_calls.Given as goal
 
 abbrev pub invariant-loop-cluster : goal.invariant-loop-cluster

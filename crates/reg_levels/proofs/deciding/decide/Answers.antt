@@ -3,8 +3,8 @@ use Rattle.std.specs.List.{filter}
 use Rattle.std.proofs.lemmas.Bool.{ltb-true}
 use Rattle.std.proofs.lemmas.List.Elements.{All-same, All-weaker, filter_passes}
 use Rattle.level_laws.specs.Evidence.Evidence.{cycle, early}
-use Rattle.order_graph.specs.Graph.{AreAmong, IsForwardOrder}
-use Rattle.reg_clusters.specs.Table.{IsClusterTable}
+use Rattle.reg_levels.specs.OrderGraph.Graph.{AreAmong, IsForwardOrder}
+use Rattle.reg_levels.specs.Clusters.Table.{IsClusterTable}
 use Rattle.reg_levels.specs.LevelGraph.{AreWriteCalls, IsLevelGraph}
 use Rattle.reg_levels.proofs.Numbering.{clusters_few}
 use Rattle.reg_levels.proofs.Ordering.{cycle_meets, graph_among, order_writes}

@@ -1,5 +1,5 @@
 use Rattle.std.proofs.Common.{arith}
-use Rattle.reg_clusters.proofs.Places.{In-at, at-below}
+use Rattle.reg_levels.proofs.ClusterLemmas.Places.{In-at, at-below}
 use Rattle.reg_levels.proofs.early.first_too_early.Goals as goal
 
 pub returns-clause-none : goal.returns-clause-none

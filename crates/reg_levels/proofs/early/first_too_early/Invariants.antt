@@ -1,7 +1,7 @@
 use Rattle.std.proofs.Common.{ℕ, ◌<◌}
 use Rattle.history_model.specs.declared.operation.Operation.{Operation}
 use Rattle.level_laws.specs.Leads.{IsTooEarly}
-use Rattle.reg_clusters.specs.Places.{IsAt}
+use Rattle.reg_levels.specs.Clusters.Places.{IsAt}
 use Rattle.reg_levels.proofs.early.first_too_early.Given as goal
 
 abbrev pub invariant-loop-place : goal.invariant-loop-place

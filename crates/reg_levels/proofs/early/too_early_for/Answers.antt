@@ -3,8 +3,8 @@ use Rattle.history_model.specs.Legal.{MustKeep}
 use Rattle.history_model.specs.Operations.{IsWrite, is_write}
 use Rattle.history_model.specs.declared.operation.Operation.{Operation}
 use Rattle.level_laws.specs.Leads.{IsTooEarly}
-use Rattle.order_graph.proofs.Places.{place-same}
-use Rattle.reg_clusters.proofs.Places.{at-In, at-below, at-get, nothing}
+use Rattle.reg_levels.proofs.OrderGraphLemmas.Places.{place-same}
+use Rattle.reg_levels.proofs.ClusterLemmas.Places.{at-In, at-below, at-get, nothing}
 use Rattle.reg_levels.proofs.InTime.{cluster_read, early_in, number_read, read_called, too_early_read}
 use Rattle.reg_levels.proofs.InTime.{write_read}
 use Rattle.reg_levels.proofs.early.too_early_for.Goals as goal

@@ -2,8 +2,8 @@ use Rattle.std.proofs.Common.{◌≡◌, ◌<◌, [], suc, Some, length, slice_g
 use Rattle.std.proofs.Common.{subst, add-one}
 use Rattle.std.proofs.lemmas.List.{drop_all}
 use Rattle.std.proofs.lemmas.Option.{slice_get-get_or, slice_get_read, slice_get_within}
-use Rattle.order_graph.proofs.Places.{place-inside, place-same}
-use Rattle.order_graph.specs.declared.edge.Edge.{Edge}
+use Rattle.reg_levels.proofs.OrderGraphLemmas.Places.{place-inside, place-same}
+use Rattle.reg_levels.specs.declared.order_graph.edge.Edge.{Edge}
 use Rattle.reg_levels.proofs.Tracing.{IsTrace, IsTraced, link_by, path-next, trace_all, trace_none}
 use Rattle.reg_levels.proofs.Tracing.{trace_on, trace_step}
 use Rattle.reg_levels.proofs.Turned.{path_within}

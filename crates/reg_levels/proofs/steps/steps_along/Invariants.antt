@@ -1,9 +1,9 @@
 use Rattle.std.proofs.Common.{◌≡◌, ◌<◌, ℕ, List, Option, Some, length, slice_get}
 use Rattle.history_model.specs.declared.guarantee.Guarantee.{Guarantee}
 use Rattle.history_model.specs.declared.operation.Operation.{Operation}
-use Rattle.order_graph.specs.Graph.{IsPath}
-use Rattle.reg_clusters.specs.Table.{IsEnds}
-use Rattle.reg_clusters.specs.declared.table.ClusterEnds.{ClusterEnds}
+use Rattle.reg_levels.specs.OrderGraph.Graph.{IsPath}
+use Rattle.reg_levels.specs.Clusters.Table.{IsEnds}
+use Rattle.reg_levels.specs.declared.clusters.table.ClusterEnds.{ClusterEnds}
 use Rattle.reg_levels.proofs.Tracing.{IsTrace, IsTraced}
 use Rattle.reg_levels.proofs.steps.steps_along.Given as goal
 

@@ -2,8 +2,8 @@ use Rattle.std.proofs.Common.{◌≡◌, Some, length, slice_get, slice_index_or
 use Rattle.std.proofs.lemmas.Bool.{cases_order}
 use Rattle.std.proofs.lemmas.Grind.{common_steps}
 use Rattle.std.proofs.lemmas.Option.{slice_get-get_or, slice_get_read, slice_get_within}
-use Rattle.order_graph.proofs.Places.{place-same}
-use Rattle.order_graph.specs.declared.edge.Edge.{Edge}
+use Rattle.reg_levels.proofs.OrderGraphLemmas.Places.{place-same}
+use Rattle.reg_levels.specs.declared.order_graph.edge.Edge.{Edge}
 use Rattle.reg_levels.proofs.Turned.{path_within, turned_is}
 use Rattle.reg_levels.proofs.steps.turned_to_cluster.Goals as goal
 

@@ -1,5 +1,5 @@
 use Rattle.std.proofs.Common.{◌≡◌, ◌<◌, ℕ, slice_get, Some}
-use Rattle.order_graph.specs.declared.edge.Edge.{Edge}
+use Rattle.reg_levels.specs.declared.order_graph.edge.Edge.{Edge}
 use Rattle.reg_levels.proofs.steps.turned_to_cluster.Given as goal
 
 abbrev pub invariant-loop-place : goal.invariant-loop-place

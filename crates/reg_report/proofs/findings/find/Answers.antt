@@ -1,6 +1,6 @@
 use Rattle.std.proofs.Common.{rules, subst}
 use Rattle.std.specs.Prelude.{MatchBool}
-use Rattle.reg_pieces.specs.Plan.{IsFirstPlan, IsPlan}
+use Rattle.reg_report.specs.Pieces.Plan.{IsFirstPlan, IsPlan}
 use Rattle.reg_report.proofs.findings.find.Goals as goal
 
 pub both-counts-requires-after_bounds : goal.both-counts-requires-after_bounds

@@ -1,6 +1,6 @@
 use Rattle.reg_report.specs.Cuts.{HasTasks}
 use Rattle.reg_report.specs.Registers.{AreFirstFindings}
-use Rattle.reg_pieces.specs.Slots.{AreDoneFrom}
+use Rattle.reg_report.specs.Pieces.Slots.{AreDoneFrom}
 use Rattle.reg_report.proofs.findings.findings.Given as goal
 
 abbrev pub invariant-loop-number : goal.invariant-loop-number

@@ -1,7 +1,7 @@
 -- The report that was written has the lines whose text was made.
 use Rattle.std.proofs.Common.{sym, subst}
 use Rattle.reg_report.specs.Meaning.{IsWholeAtomicity}
-use Rattle.reg_text.specs.declared.report.Report.{Report}
+use Rattle.report_text.specs.declared.check.report.Report.{Report}
 use Rattle.reg_report.proofs.FindingsText.{summary-behind}
 use Rattle.reg_report.proofs.findings_text.whole_text.Goals as goal
 

@@ -1,5 +1,5 @@
 use Rattle.std.proofs.Common.{[], ◌∷◌, ◌++◌, ◌∙◌, List, ap}
-use Rattle.reg_text.specs.declared.report.RegReport.{RegReport}
+use Rattle.report_text.specs.declared.check.report.RegReport.{RegReport}
 use Rattle.reg_report.proofs.FoundLines.{no-line, one-line}
 use Rattle.reg_report.proofs.first.first_lines.Goals as goal
 

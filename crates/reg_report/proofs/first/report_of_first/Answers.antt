@@ -1,6 +1,6 @@
 use Rattle.std.proofs.Common.{subst}
 use Rattle.std.specs.Prelude.{MatchBool}
-use Rattle.reg_pieces.specs.Plan.{IsFirstPlan, IsPlan}
+use Rattle.reg_report.specs.Pieces.Plan.{IsFirstPlan, IsPlan}
 use Rattle.reg_report.proofs.first.report_of_first.Goals as goal
 
 pub first_faulty-requires-after_bounds : goal.first_faulty-requires-after_bounds

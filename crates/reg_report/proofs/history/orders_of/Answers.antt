@@ -1,6 +1,6 @@
 use Rattle.std.proofs.Common.{◌+◌, ◌++◌, sym, ap, subst, ◌∙◌, arith}
 use Rattle.history_model.specs.Operations.{register_of}
-use Rattle.reg_pieces.specs.Judged.{IsJudged}
+use Rattle.reg_report.specs.Pieces.Judged.{IsJudged}
 use Rattle.reg_zones.specs.Order.{IsOrder}
 use Rattle.reg_report.specs.Merged.{AreGathered}
 use Rattle.reg_report.proofs.Atomic.{one-gathered-more}

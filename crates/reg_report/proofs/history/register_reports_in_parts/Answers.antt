@@ -4,7 +4,7 @@ use Rattle.std.proofs.lemmas.Result.{IfOk-weaker}
 use Rattle.parallel.proofs.Callers.{all-given}
 use Rattle.reg_report.specs.Meaning.{IsRegisterReport}
 use Rattle.reg_report.specs.declared.findings.Finding.{Finding}
-use Rattle.reg_text.specs.declared.report.RegReport.{RegReport}
+use Rattle.report_text.specs.declared.check.report.RegReport.{RegReport}
 use Rattle.reg_report.proofs.Found.{each-found, lines-of}
 use Rattle.reg_report.proofs.history.register_reports_in_parts.Goals as goal
 

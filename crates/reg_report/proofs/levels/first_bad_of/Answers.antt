@@ -1,5 +1,5 @@
 use Rattle.std.proofs.Common.{◌+◌, ◌∙◌, length, sym, subst, arith}
-use Rattle.reg_pieces.specs.declared.bad_reads.BadReads.{BadReads}
+use Rattle.reg_report.specs.declared.pieces.bad_reads.BadReads.{BadReads}
 use Rattle.history_model.specs.Lamport.{completed_reads}
 use Rattle.history_model.specs.Operations.{register_of}
 use Rattle.reg_report.proofs.Cutting.{IsPutTogether, cut-stands, inside, together-goes-on}

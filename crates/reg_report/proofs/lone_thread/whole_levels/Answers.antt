@@ -2,7 +2,7 @@ use Rattle.std.proofs.Common.{◌∙◌, length, subst}
 use Rattle.history_model.specs.Lamport.{completed_reads}
 use Rattle.history_model.specs.Operations.{register_of}
 use Rattle.reg_lamport.proofs.Cuts.{list-length}
-use Rattle.reg_pieces.specs.BadReads.{AreFirstBad}
+use Rattle.reg_report.specs.Pieces.BadReads.{AreFirstBad}
 use Rattle.reg_report.proofs.lone_thread.whole_levels.Goals as goal
 
 pub levels_by-requires-clause-first : goal.levels_by-requires-clause-first

@@ -2,7 +2,7 @@
 -- parser promises, and the settings have them.
 use Rattle.std.proofs.Common.{◌≡◌, ◌∙◌, ap, arith, codes, map, string_bytes, subst, Option, Some}
 use Rattle.std.specs.Prelude.{IfSome}
-use Rattle.reg_pieces.specs.Settings.{SettingsShown}
+use Rattle.reg_report.specs.Pieces.Settings.{SettingsShown}
 use Rattle.command_words.proofs.Found.{file_found, text_named}
 use Rattle.command_words.proofs.Numbers.{signed_is, signed_is_some}
 use Rattle.command_words.specs.Words.{text_given}

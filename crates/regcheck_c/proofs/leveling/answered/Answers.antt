@@ -1,5 +1,5 @@
 use Rattle.std.proofs.Common.{◌≡◌, ℕ, Bool, List, true, false, if◌then◌else◌, ap, arith, inl, subst, sym}
-use Rattle.level_text.specs.declared.report.Required.{Required}
+use Rattle.report_text.specs.declared.level.report.Required.{Required}
 use Rattle.level_report.specs.Answer.{IsAnswerText, IsOutcome}
 use Rattle.level_report.specs.declared.outcome.Outcome.{Outcome}
 use Rattle.level_report.specs.declared.outcome.Outcome.TheVariants.{Kept, Broken, Unknown}

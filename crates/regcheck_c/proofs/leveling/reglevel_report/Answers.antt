@@ -1,6 +1,6 @@
 use Rattle.std.proofs.Common.{◌≡◌, ◌∙◌, Some, subst, sym}
 use Rattle.std.proofs.lemmas.Option.{same_Some}
-use Rattle.level_text.specs.declared.report.Required.{Required}
+use Rattle.report_text.specs.declared.level.report.Required.{Required}
 use Rattle.level_report.specs.Answer.{IsOutcome}
 use Rattle.level_report.specs.declared.outcome.Outcome.{Outcome}
 use Rattle.level_report.specs.declared.outcome.Outcome.TheVariants.{Kept, Broken, Unknown}

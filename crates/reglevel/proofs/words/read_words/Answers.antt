@@ -10,8 +10,8 @@ use Rattle.command_words.specs.Words.{text_given, IsFaultless, IsTaken}
 use Rattle.command_words.proofs.Found.{file_found, text_named}
 use Rattle.command_words.proofs.Numbers.{signed_is, signed_is_some}
 use Rattle.level_report.specs.declared.settings.Settings.{Settings}
-use Rattle.level_text.specs.Words.{required_word, IsLevelRead}
-use Rattle.level_text.specs.declared.report.Required.{Required}
+use Rattle.report_text.specs.Level.Words.{required_word, IsLevelRead}
+use Rattle.report_text.specs.declared.level.report.Required.{Required}
 use Rattle.reglevel.specs.Words.{command_line}
 use Rattle.reglevel.proofs.Named.{level_named}
 use Rattle.reglevel.proofs.Numbers.{require_found, workers_found}

@@ -1,6 +1,6 @@
 -- The lines so far, and those of the places that are left, are the lines of all.
 use Rattle.std.proofs.Common.{◌≡◌, ◌++◌, drop}
-use Rattle.cas_search.specs.Timeline.{operations_at}
+use Rattle.register_search.specs.Timeline.{operations_at}
 use Rattle.search_report.specs.Meaning.{lines_of}
 use Rattle.search_report.proofs.lines.lines_of_places.Given as goal
 

@@ -1,5 +1,5 @@
 use Rattle.std.proofs.Common.{subst, sym, refl, ap, ◌∙◌}
-use Rattle.cas_search.specs.Timeline.{operations_at}
+use Rattle.register_search.specs.Timeline.{operations_at}
 use Rattle.search_report.specs.Meaning.{lines_of}
 use Rattle.search_report.specs.Registers.{AreLinesBefore}
 use Rattle.std.proofs.Common.{Some}

@@ -1,5 +1,5 @@
 use Rattle.std.proofs.Common.{subst, sym}
-use Rattle.cas_search.specs.Timeline.{IsTimeline}
+use Rattle.register_search.specs.Timeline.{IsTimeline}
 use Rattle.search_report.proofs.Told.{are-calls, are-times, told-of}
 use Rattle.search_report.proofs.register.searched.Goals as goal
 

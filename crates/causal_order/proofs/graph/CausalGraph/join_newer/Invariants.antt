@@ -1,7 +1,7 @@
 use Rattle.std.proofs.Common.{◌≤◌, ◌+◌, List, length}
 use Rattle.history_model.specs.declared.operation.Operation.{Operation}
-use Rattle.session_clocks.specs.WriteIndex.{IsWriteIndex}
-use Rattle.session_clocks.specs.declared.table.SessionTable.{SessionTable}
+use Rattle.causal_order.specs.SessionClocks.WriteIndex.{IsWriteIndex}
+use Rattle.causal_order.specs.declared.session_clocks.table.SessionTable.{SessionTable}
 use Rattle.causal_order.specs.CausalGraph.{IsCausalGraph, Keeps}
 use Rattle.causal_order.specs.Covering.{AreReached, IsSourcedRead}
 use Rattle.causal_order.proofs.graph.CausalGraph.join_newer.Given as goal

@@ -1,5 +1,5 @@
 use Rattle.std.proofs.Common.{arith, ◌∙◌}
-use Rattle.order_graph.proofs.Places.{place-inside}
+use Rattle.reg_levels.proofs.OrderGraphLemmas.Places.{place-inside}
 use Rattle.causal_order.proofs.Meeting.{met-none}
 use Rattle.causal_order.proofs.knew.KnewSearch.knew.Goals as goal
 

@@ -1,6 +1,6 @@
 use Rattle.std.proofs.Common.{◌≡◌, ℕ, ◌<◌, Some, length, slice_get}
-use Rattle.session_clocks.specs.Clocks.{Asks}
-use Rattle.session_clocks.specs.declared.table.SessionTable.{SessionTable}
+use Rattle.causal_order.specs.SessionClocks.Clocks.{Asks}
+use Rattle.causal_order.specs.declared.session_clocks.table.SessionTable.{SessionTable}
 use Rattle.causal_order.specs.Ways.{AreMet}
 use Rattle.causal_order.specs.declared.knew.MetPlace.{MetPlace}
 use Rattle.causal_order.proofs.Meeting.{IsTrail}

@@ -2,7 +2,7 @@
 use Rattle.std.proofs.Common.{None, Some, arith, refl, subst, sym}
 use Rattle.history_model.specs.declared.event.Event.{Event}
 use Rattle.history_model.specs.declared.event.What.TheVariants.{Fail}
-use Rattle.event_lists.specs.EventLists.{IsAlike}
+use Rattle.reg_arena.specs.Lists.EventLists.{IsAlike}
 use Rattle.reg_arena.specs.Step.{with_event}
 use Rattle.reg_arena.proofs.Step.{appended, event_by, fail-call, fail-next}
 use Rattle.reg_arena.proofs.Step.{next-recorded, open-named, taken-room}

@@ -2,7 +2,7 @@
 use Rattle.std.proofs.Common.{None, Option, Some, ap, arith, refl, subst, ◌∙◌}
 use Rattle.history_text.specs.declared.event.Val.{Val}
 use Rattle.history_model.specs.History.{History}
-use Rattle.event_lists.specs.EventLists.{IsAlike}
+use Rattle.reg_arena.specs.Lists.EventLists.{IsAlike}
 use Rattle.reg_arena.specs.Step.{IsOpenCall, with_event}
 use Rattle.history_model.specs.declared.ids.EvId.{EvId}
 use Rattle.history_model.specs.declared.event.Event.{Event}

@@ -1,6 +1,6 @@
 -- An event begins an operation where it is its own call.
 use Rattle.std.proofs.Common.{◌≡◌, nat_eq, false, ap, subst, ◌∙◌, slice_get}
-use Rattle.event_lists.specs.EventLists.{IsCallOf, events_in}
+use Rattle.reg_arena.specs.Lists.EventLists.{IsCallOf, events_in}
 use Rattle.history_model.specs.History.{History}
 use Rattle.history_model.specs.Naming.{begins_at}
 use Rattle.reg_arena.proofs.Begins.{begins-none, begins-some}

@@ -1,11 +1,11 @@
 use Rattle.std.proofs.Common.{◌≡◌, ◌<◌, ◌∙◌, ℕ, List, Option, None, ap, arith, length, sym, subst}
-use Rattle.event_lists.specs.EventLists.{events_in}
+use Rattle.reg_arena.specs.Lists.EventLists.{events_in}
 use Rattle.history_model.specs.History.{History, IsRecorded}
 use Rattle.history_model.specs.OfValue.{IsFirstReply}
 use Rattle.history_text.specs.declared.event.Val.{Val}
-use Rattle.event_lists.specs.EventLists.{AreEventLists, entry_in}
+use Rattle.reg_arena.specs.Lists.EventLists.{AreEventLists, entry_in}
 use Rattle.reg_arena.specs.ValueTimes.{reply_time}
-use Rattle.event_lists.specs.declared.lists.EventLists.{EventLists}
+use Rattle.reg_arena.specs.declared.event_lists.lists.EventLists.{EventLists}
 use Rattle.reg_arena.proofs.Times.{has-times, first-time}
 use Rattle.reg_arena.proofs.arena.Arena.first_reply.Goals as goal
 

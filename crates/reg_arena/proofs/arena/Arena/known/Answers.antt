@@ -1,6 +1,6 @@
 -- A number that isn't below the count of the names is that count, and the name is new.
 use Rattle.std.proofs.Common.{bytes_eq, length, ap, arith}
-use Rattle.event_lists.proofs.Keys.{place-within}
+use Rattle.reg_arena.proofs.ListLemmas.Keys.{place-within}
 use Rattle.reg_arena.proofs.arena.Arena.known.Goals as goal
 
 pub returns-else-number-len : goal.returns-else-number-len

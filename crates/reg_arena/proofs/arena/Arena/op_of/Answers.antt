@@ -1,6 +1,6 @@
 -- The call beside an event is that of the event's operation.
 use Rattle.std.proofs.Common.{ap, subst, sym, ◌∙◌, slice_get}
-use Rattle.event_lists.specs.EventLists.{IsCallOf}
+use Rattle.reg_arena.specs.Lists.EventLists.{IsCallOf}
 use Rattle.history_model.specs.History.{History, IsRecorded}
 use Rattle.history_model.specs.Naming.{IsOperOf}
 use Rattle.reg_arena.proofs.Mapped.{named-by}

@@ -2,7 +2,7 @@
 use Rattle.std.proofs.Common.{arith, cond, nat_le, length, slice_get, Some}
 use Rattle.std.proofs.Common.{None, inl, inr, sym, ap, subst, ◌∙◌}
 use Rattle.history_text.specs.declared.limits.TheConstants.{MAX_EVENTS}
-use Rattle.event_lists.specs.EventLists.{events_in}
+use Rattle.reg_arena.specs.Lists.EventLists.{events_in}
 use Rattle.history_model.specs.Refusals.{refused}
 use Rattle.history_model.specs.History.{History, IsRecorded}
 use Rattle.reg_arena.specs.Step.{IsOpenCall}

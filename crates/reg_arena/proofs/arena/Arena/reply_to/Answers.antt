@@ -3,7 +3,7 @@ use Rattle.std.proofs.lemmas.Option.{slice_get_within}
 use Rattle.history_model.specs.declared.ids.EvId.{EvId}
 use Rattle.std.proofs.Common.{◌≡◌, ◌<◌, length, sym, ap, subst, option_and_then}
 use Rattle.history_model.specs.Walking.{IsNextOf, by_process, IsReplyOf}
-use Rattle.event_lists.proofs.Append.{key-within}
+use Rattle.reg_arena.proofs.ListLemmas.Append.{key-within}
 use Rattle.reg_arena.proofs.ByCall.{reply-none, reply-some, reply-other}
 use Rattle.reg_arena.proofs.arena.Arena.reply_to.Goals as goal
 use Rattle.history_model.proofs.Lists.{slice_get_inside}

@@ -1,7 +1,7 @@
 use Rattle.std.proofs.Common.{Option, sym, subst, ◌∙◌, Some, None, option_map}
 use Rattle.history_model.specs.History.{History, IsRecorded}
 use Rattle.history_model.specs.OfValue.{IsWriteOf}
-use Rattle.event_lists.specs.EventLists.{IsKeptWrite}
+use Rattle.reg_arena.specs.Lists.EventLists.{IsKeptWrite}
 use Rattle.history_model.specs.declared.ids.Oper.TheVariants.{Called, Initial}
 use Rattle.history_model.specs.declared.ids.EvId.{EvId}
 use Rattle.reg_arena.proofs.Mapped.{named-by}

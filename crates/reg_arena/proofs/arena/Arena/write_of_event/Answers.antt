@@ -4,7 +4,7 @@ use Rattle.history_text.specs.declared.event.Val.TheVariants.{Null}
 use Rattle.history_model.specs.History.{History, IsRecorded}
 use Rattle.history_model.specs.Walking.{by_value, key_at}
 use Rattle.history_model.specs.OfValue.{IsWriteOf}
-use Rattle.event_lists.specs.EventLists.{IsKeptWrite}
+use Rattle.reg_arena.specs.Lists.EventLists.{IsKeptWrite}
 use Rattle.history_model.specs.declared.ids.RegId.{RegId}
 use Rattle.history_model.specs.declared.ids.Oper.TheVariants.{Called, Initial}
 use Rattle.history_model.specs.declared.ids.EvId.{EvId}

@@ -2,7 +2,7 @@
 use Rattle.std.proofs.Common.{◌≡◌, ◌∷◌, ◌++◌, [], length, bytes_eq, Some, sym, ap, subst, ◌∙◌, arith}
 use Rattle.std.specs.Prelude.{if◌then◌else◌}
 use Rattle.std.specs.List.{list_any, position, position_or_len}
-use Rattle.event_lists.proofs.Keys.{place-none, place-some, added-last}
+use Rattle.reg_arena.proofs.ListLemmas.Keys.{place-none, place-some, added-last}
 use Rattle.reg_arena.proofs.Numbered.{with-known, with-new}
 use Rattle.reg_arena.proofs.numbering.Numbering.number_name.Goals as goal
 

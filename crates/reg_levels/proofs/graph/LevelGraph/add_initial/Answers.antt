@@ -1,6 +1,6 @@
 use Rattle.std.proofs.Common.{◌≡◌, ◌<◌, ◌^◌, Some, slice_get, length, arith, refl, sym, ap, subst, ◌∙◌}
 use Rattle.std.proofs.lemmas.Option.{slice_get_read}
-use Rattle.reg_clusters.specs.Places.{IsAt}
+use Rattle.reg_levels.specs.Clusters.Places.{IsAt}
 use Rattle.reg_levels.specs.LevelGraph.{Reaches}
 use Rattle.reg_levels.proofs.Beginning.{begun_more, initial_at_0}
 use Rattle.reg_levels.proofs.Numbering.{clusters_few}

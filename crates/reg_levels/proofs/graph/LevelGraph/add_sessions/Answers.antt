@@ -1,12 +1,13 @@
 use Rattle.std.proofs.Common.{◌≡◌, ℕ, ◌+◌, nat_eq, arith, rules, sym, ◌∙◌, subst}
 use Rattle.std.specs.HashMap.{get}
 use Rattle.std.proofs.lemmas.Option.{slice_get-get_or}
-use Rattle.reg_clusters.proofs.Places.{nothing}
-use Rattle.reg_clusters.specs.Places.{IsAt}
+use Rattle.reg_levels.proofs.ClusterLemmas.Places.{nothing}
+use Rattle.reg_levels.specs.Clusters.Places.{IsAt}
 use Rattle.reg_levels.specs.LevelGraph.{IsLatestOf}
 use Rattle.reg_levels.proofs.Latest.{AreSessionsBelow, latest_lasting, latest_none, latest_passing}
 use Rattle.reg_levels.proofs.Latest.{next_below, none_below}
-use Rattle.reg_levels.proofs.graph.LevelGraph.add_sessions.Goals.{in-Some+in_ok-join_next+then-is_lasting+in_ok-insert, in-Some+in_ok-join_next+else-is_lasting, in_default}
+use Rattle.reg_levels.proofs.graph.LevelGraph.add_sessions.Goals.{in-Some+in_ok-join_next+else-is_lasting}
+use Rattle.reg_levels.proofs.graph.LevelGraph.add_sessions.Goals.{in_default}
 use Rattle.reg_levels.proofs.graph.LevelGraph.add_sessions.Goals as goal
 
 pub loop-place-preserved : goal.loop-place-preserved
@@ -16,7 +17,7 @@ loop-place-preserved c =
     let at : IsAt c.args.ops.now place _ =
     slice_get-get_or c.args.ops.now place nothing (omega (arith, c.loop-place-test.true)) in
     elim c.match-session_at.branch [
-      | in-Some+in_ok-join_next+then-is_lasting+in_ok-insert w ↦
+      | goal.in-Some+in_ok-join_next+then-is_lasting+in_ok-insert w ↦
           let earlier : w.copied-earlier.result ≡ get nat_eq c.loop-place.latest w.in-Some.session = search
           rules in
           let latest = subst (IsLatestOf c.args.guarantee c.args.ops.now c.args.numbers.now

@@ -1,6 +1,6 @@
 use Rattle.std.proofs.Common.{ℕ, ◌-◌, ◌≤◌, List, length}
 use Rattle.history_model.specs.declared.operation.Operation.{Operation}
-use Rattle.reg_clusters.specs.declared.table.ClusterEnds.{ClusterEnds}
+use Rattle.reg_levels.specs.declared.clusters.table.ClusterEnds.{ClusterEnds}
 use Rattle.reg_levels.specs.LevelGraph.{IsClusterWrite}
 use Rattle.reg_levels.specs.ReadLists.{AreReadLists}
 use Rattle.reg_levels.proofs.Reading.{IsListedTo}

@@ -1,6 +1,0 @@
-use Rattle.std.proofs.Common.{take}
-use Rattle.cas_search.proofs.Checking.{AreMarked}
-use Rattle.cas_search.proofs.check.marked.Given as goal
-
-abbrev pub invariant-loop-number : goal.invariant-loop-number
-invariant-loop-number l = AreMarked l.count (take l.number-index l.order) l.marks.items

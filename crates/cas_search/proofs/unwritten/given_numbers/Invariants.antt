@@ -1,6 +1,0 @@
-use Rattle.std.proofs.Common.{take}
-use Rattle.cas_search.specs.Unwritten.{HasGiven}
-use Rattle.cas_search.proofs.unwritten.given_numbers.Given as goal
-
-abbrev pub invariant-loop-op : goal.invariant-loop-op
-invariant-loop-op l = HasGiven (take l.op-index l.ops) l.given

@@ -1,2 +1,0 @@
-pub mod Causal
-pub mod Fault

@@ -1,5 +1,0 @@
-use Rattle.event_lists.proofs.ByEvent.{call-beside}
-use Rattle.event_lists.proofs.lists.EventLists.call.Goals as goal
-
-pub returns : goal.returns
-returns c = λ e at. call-beside c.args.self.now c.requires.lists c.args.id.0 e c.call.result at c.call.ensures

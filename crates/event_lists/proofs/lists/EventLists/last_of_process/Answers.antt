@@ -1,6 +1,0 @@
-use Rattle.std.proofs.Common.{sym, ◌∙◌}
-use Rattle.event_lists.proofs.lists.EventLists.last_of_process.Goals as goal
-
-pub returns : goal.returns
-returns c =
-    c.requires.processes.last c.args.process c.in_ok-get.field-0 (sym c.get.ensures ∙ c.in_ok-get.was)

@@ -1,4 +1,0 @@
-mod CausalFields
-mod Counts
-mod Fields
-mod Joined

@@ -1,8 +1,0 @@
-use Rattle.level_text.proofs.Counts.{register_count}
-use Rattle.level_text.proofs.send.register_len.Goals as goal
-
-pub returns : goal.returns
-returns c =
-    register_count c.args.reg.now _ _ _ _ c.first_len.ensures.fields c.second_len.ensures.fields
-    c.third_len.ensures.fields
-    c.last_len.ensures.fields

@@ -1,9 +1,0 @@
-use Rattle.std.proofs.Common.{◌≡◌, length}
-use Rattle.order_graph.specs.Shorter.{AreMet}
-use Rattle.order_graph.proofs.shorter.shorter.Given as goal
-
-abbrev pub invariant-loop-place : goal.invariant-loop-place
-invariant-loop-place l = record {
-  size : length l.search.seen.items ≡ l.nodes;
-  met : AreMet l.nodes l.edges l.start l.search.met.items;
-}

@@ -1,5 +1,0 @@
-use Rattle.order_graph.proofs.Rounds.{IsTurned}
-use Rattle.order_graph.proofs.walk.GraphWalk.cycle_to.Given as goal
-
-abbrev pub invariant-loop-place : goal.invariant-loop-place
-invariant-loop-place l = IsTurned l.self.path.items l.cycle.items l.place l.node

@@ -1,0 +1,15 @@
+pub mod Columns
+pub mod RowWritten
+pub mod Threading
+pub mod Joining
+pub mod Keys
+pub mod Values
+pub mod Searching
+pub mod Entering
+pub mod Pairing
+pub mod Append
+pub mod AppendCalls
+pub mod AppendEntries
+pub mod ByValue
+pub mod ByEvent
+pub mod KeptWrite

@@ -1,5 +1,0 @@
-use Rattle.reg_clusters.specs.Steps.{AreSources}
-use Rattle.reg_clusters.proofs.sources.sources.Given as goal
-
-abbrev pub invariant-loop-place : goal.invariant-loop-place
-invariant-loop-place l = AreSources l.ops l.place l.sources.items

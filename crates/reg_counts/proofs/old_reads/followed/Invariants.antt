@@ -1,5 +1,0 @@
-use Rattle.reg_counts.specs.Marks.{AreFound, IsFollowedFound}
-use Rattle.reg_counts.proofs.old_reads.followed.Given as goal
-
-abbrev pub invariant-loop-place : goal.invariant-loop-place
-invariant-loop-place l = AreFound (IsFollowedFound l.ops l.marks) l.ops l.place l.reads.items

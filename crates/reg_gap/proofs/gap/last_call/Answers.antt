@@ -1,6 +1,0 @@
-use Rattle.std.proofs.Common.{sym}
-use Rattle.reg_gap.proofs.Showing.{last-latest}
-use Rattle.reg_gap.proofs.gap.last_call.Goals as goal
-
-pub returns-in-Some : goal.returns-in-Some
-returns-in-Some c = last-latest c.args.ops.now c.requires c.in-Some.op.now (sym c.in-Some.ensures.value)

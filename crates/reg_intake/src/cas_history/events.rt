@@ -1,0 +1,110 @@
+//! The events of the lines so far.
+ghost use Rattle.std.specs.Prelude.{◌≡◌, ◌++◌, ◌∷◌, [], None, IfErr, IfOk, OnErr, OnOk};
+ghost use Rattle.std.specs.Option.{option_copied};
+ghost use Rattle.history_model.specs.Table.{last_event};
+ghost use Rattle.reg_intake.specs.CasHistory.Events.{any_form};
+ghost use Rattle.reg_intake.specs.CasHistory.History.{IsHistoryOf};
+ghost use Rattle.reg_intake.specs.CasHistory.Refusals.{IsTakeError, event_refusal as refusal_of};
+
+use crate::cas_history::calls::{call_words, calls_backward};
+use crate::cas_history::history::History;
+use crate::cas_history::naming::Naming;
+use crate::cas_history::reason::event_refusal;
+use crate::cas_history::registers::by_register;
+use history_model::BuildError;
+use history_text::AnyEvent;
+use std::alloc::{AllocError, Global};
+use std::collections::BTreeMap;
+use std::marker::Model;
+
+/// Events that were taken in, one after another. Contracts see them as a list.
+#[derive(Drop)]
+pub struct Events {
+    events: Vec<AnyEvent>,
+    /// The place of each process's last event.
+    last: BTreeMap<u32, usize>,
+}
+
+impl Model for Events {
+    ghost use Rattle.std.specs.Prelude.{List};
+    ghost use Rattle.std.specs.Ordering.{nat_cmp};
+    ghost use Rattle.std.specs.BTreeMap.{get};
+    ghost use Rattle.history_text.specs.declared.event.AnyEvent.{AnyEvent as AnEvent};
+    ghost use Rattle.reg_intake.specs.CasHistory.Kept.{IsKept};
+
+    ghost Value = { List AnEvent };
+
+    ghost view = { λ e. e.events.items };
+
+    ghost invariant = { λ e. IsKept e.events.items (get nat_cmp e.last) };
+}
+
+impl Events {
+    /// No events.
+    pub fn none(alloc: Global) -> Self
+        ensures { result ≡ [] }
+    {
+        Events {
+            events: Vec::new(alloc),
+            last: BTreeMap::new(alloc),
+        }
+    }
+
+    /// Takes in one more event.
+    ///
+    /// # Errors
+    /// `Refused` if the event is refused after the others, and `Memory`. The events are as they were then.
+    pub fn take(&mut self, event: AnyEvent) -> Result<(), BuildError>
+        ensures ok { OnOk result (self.new ≡ self.old ++ event ∷ []) }
+        ensures accepted { OnOk result (refusal_of self.old event ≡ None) }
+        ensures err { IfErr result (IsTakeError self.old event) }
+        ensures same { OnErr result (self.new ≡ self.old) }
+    {
+        let place = self.events.len();
+        let last = self.last_of(event.process);
+        if let Some(refusal) = event_refusal(place, last, &event) {
+            return Err(BuildError::Refused(refusal));
+        }
+        let process = event.process;
+        if self.events.push(event).is_err() {
+            return Err(BuildError::Memory);
+        }
+        match self.last.insert(process, place) {
+            Ok(_) => Ok(()),
+            Err(_) => {
+                self.events.truncate(place);
+                Err(BuildError::Memory)
+            }
+        }
+    }
+
+    /// The last event of a process.
+    fn last_of(&self, process: u32) -> Option<&AnyEvent>
+        ensures { option_copied result ≡ last_event any_form self.now process }
+    {
+        let place = *self.last.get(&process)?;
+        self.events.get(place)
+    }
+
+    /// The history of the events.
+    ///
+    /// The error says that memory ran out.
+    pub fn history(self, alloc: Global) -> Result<History, AllocError>
+        ensures { IfOk result (IsHistoryOf self) }
+    {
+        let naming = Naming::of(alloc, &self.events)?;
+        let backward = calls_backward(alloc, &self.events, &naming)?;
+        let names = naming.into_names();
+        let operations = backward.len();
+        let registers = by_register(alloc, names.len(), backward)?;
+        let lines = self.events.iter().map(|event| event.line).collect(alloc)?;
+        let words = call_words(alloc, &self.events)?;
+        Ok(History {
+            names,
+            registers,
+            operations,
+            lines,
+            words,
+        })
+    }
+}

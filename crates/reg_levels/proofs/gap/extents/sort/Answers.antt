@@ -1,0 +1,9 @@
+use Rattle.std.proofs.Common.{rules}
+use Rattle.std.proofs.lemmas.List.Sorted.{IsNonDecreasingBy-from_sort_by_key}
+use Rattle.reg_levels.specs.declared.gap.extent.Extent.{Extent}
+use Rattle.reg_levels.proofs.gap.extents.sort.Goals as goal
+
+pub returns-clause-rising : goal.returns-clause-rising
+returns-clause-rising c =
+    IsNonDecreasingBy-from_sort_by_key (λ (x : Extent). x.first_reply) _
+    c.sort_unstable_by_key.ensures.sorted (λ a r q k. search rules)

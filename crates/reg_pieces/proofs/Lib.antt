@@ -1,8 +1,0 @@
-pub mod Pushed
-mod Numbering
-mod Fitness
-mod Fewness
-mod Putting
-mod Working
-mod Searching
-mod Gathering

@@ -1,3 +1,0 @@
-mod Fields
-pub mod Joined
-mod SummaryText

@@ -1,0 +1,4 @@
+pub mod CausalFields
+pub mod Counts
+pub mod Fields
+pub mod Joined

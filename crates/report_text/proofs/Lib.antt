@@ -1,0 +1,4 @@
+pub mod LevelLemmas
+pub mod SearchLemmas
+pub mod CheckLemmas
+pub mod JsonFieldLemmas

@@ -1,0 +1,13 @@
+use Rattle.std.proofs.lemmas.Result.{on_ok_weaker}
+use Rattle.report_text.specs.Check.Text.{summary_parts}
+use Rattle.report_text.proofs.JsonFieldLemmas.Fields.{sends_object}
+use Rattle.report_text.proofs.check.send.SummarySerialize.serialize.Goals as goal
+
+pub returns : goal.returns
+returns g c =
+    let at = g.S.Serializer.written in
+    on_ok_weaker c.end_map.result (λ e.
+    sends_object (summary_parts c.args.self.now.report.now) c.summary_len.result (at c.args.out.now)
+    (at c.begin_map.new.self) (at c.send_summary_parts.new.out)
+    (at c.end_map.new.self) c.summary_len.ensures c.in_ok-begin_map.ensures
+    c.in_ok-send_summary_parts.ensures e) c.end_map.ensures

@@ -1,0 +1,34 @@
+use Rattle.std.proofs.Common.{refl}
+use Rattle.std.proofs.lemmas.Result.{on_ok_weaker}
+use Rattle.report_text.proofs.level.send.send_last_totals.Goals as goal
+
+pub returns : goal.returns
+returns g c =
+    let at = g.S.Serializer.written in
+    on_ok_weaker c.show_total.result (λ e. (
+      at c.send_total.new.out,
+      c.in_ok-send_total.ensures,
+      (
+        at
+            c.send_total-2.new.out,
+        c.in_ok-send_total-2.ensures,
+        (
+          at c.send_yes_or_no.new.out,
+          c.in_ok-send_yes_or_no.ensures,
+          (
+            at c.send_yes_or_no-2.new.out,
+            c.in_ok-send_yes_or_no-2.ensures,
+            (
+              at c.send_yes_or_no-3.new.out,
+              c.in_ok-send_yes_or_no-3.ensures,
+              (
+                at c.send_total-3.new.out,
+                c.in_ok-send_total-3.ensures,
+                (at c.show_total.new.out, e, refl),
+              ),
+            ),
+          ),
+        ),
+      ),
+    ))
+    c.show_total.ensures

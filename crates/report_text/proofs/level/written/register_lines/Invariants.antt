@@ -1,0 +1,6 @@
+use Rattle.std.proofs.Common.{◌≡◌, take}
+use Rattle.report_text.specs.Level.Text.{registers_text}
+use Rattle.report_text.proofs.level.written.register_lines.Given as goal
+
+abbrev pub invariant-loop-reg : goal.invariant-loop-reg
+invariant-loop-reg l = l.out.items ≡ registers_text (take l.reg-index l.regs)

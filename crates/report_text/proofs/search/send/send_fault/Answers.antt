@@ -1,0 +1,12 @@
+use Rattle.std.proofs.lemmas.Result.{on_ok_weaker}
+use Rattle.report_text.specs.Search.Text.{fault_parts}
+use Rattle.report_text.proofs.JsonFieldLemmas.Fields.{sends_object}
+use Rattle.report_text.proofs.search.send.send_fault.Goals as goal
+
+pub returns : goal.returns
+returns g c =
+    let at = g.S.Serializer.written in
+    on_ok_weaker c.end_map.result (λ e.
+    sends_object (fault_parts c.args.fault.now) c.fault_len.result (at c.args.out.now)
+    (at c.begin_map.new.self) (at c.send_fault_parts.new.out) (at c.end_map.new.self) c.fault_len.ensures
+    c.in_ok-begin_map.ensures c.in_ok-send_fault_parts.ensures e) c.end_map.ensures

@@ -1,0 +1,4 @@
+pub mod JsonFields
+pub mod Check
+pub mod Search
+pub mod Level

@@ -1,2 +1,0 @@
-mod Fields
-mod Joined

@@ -1,7 +1,0 @@
-use Rattle.std.proofs.Common.{arith}
-use Rattle.session_clocks.proofs.Held.{full-few}
-use Rattle.session_clocks.proofs.clocks.Clocks.held.Goals as goal
-
-pub returns-clause-few : goal.returns-clause-few
-returns-clause-few c = λ table sized.
-    omega (arith, sized.held, sized.rows, full-few c.args.self.now.rows.items)

@@ -1,7 +1,0 @@
-use Rattle.std.specs.Ordering.{nat_cmp}
-use Rattle.std.specs.BTreeMap.{get}
-use Rattle.session_clocks.specs.Steps.{AreNumbers}
-use Rattle.session_clocks.proofs.numbers.session_numbers.Given as goal
-
-abbrev pub invariant-loop-place : goal.invariant-loop-place
-invariant-loop-place l = AreNumbers l.ops l.place l.count (get nat_cmp l.sessions) l.numbers.items
