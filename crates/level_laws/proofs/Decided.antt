@@ -16,7 +16,8 @@ use Rattle.reg_zones.proofs.Sorting.{sorted}
 use Rattle.level_laws.specs.Leads.{IsCleanFor}
 use Rattle.level_laws.specs.WriteOrders.{ComesSooner, IsWriteOrder}
 use Rattle.level_laws.proofs.Expanded.{expansion-legal, write-of, same-write}
-use Rattle.level_laws.proofs.Refuted.{clean, forward, kept-in}
+use Rattle.level_laws.proofs.Refuted.{clean, forward}
+use Rattle.reg_zones.proofs.Standing.{kept-in}
 
 -- ---- kept writes and listed operations among the operations
 

@@ -1,6 +1,7 @@
 pub mod Values
 pub mod Ends
 pub mod LowEnds
+pub mod Standing
 pub mod Sound
 pub mod Complete
 pub mod Sorting
