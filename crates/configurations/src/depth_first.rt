@@ -3,7 +3,7 @@
 //! legal. Only a yes counts, and its order is checked, so nothing is proved of it but that it is safe.
 //!
 //! Looks take effect as soon as a value suits them. Then changes that reply are tried, the
-//! earliest call first, and then those that don't.
+//! earliest call first, and then those that don't, of those that change alike the first one alone.
 ghost use Rattle.std.specs.Prelude.{[], IfOk};
 ghost use Rattle.configurations.specs.Reached.{IsReached};
 ghost use Rattle.configurations.specs.Runs.{AreInOrder};
@@ -13,6 +13,7 @@ use crate::links::{HEAD, Links};
 use crate::moment::Moment;
 use crate::op::{NEVER, Op, left, looks, suits};
 use crate::reached::{Reached, Taken};
+use crate::table::elders;
 use crate::tried::Tried;
 use crate::work::Limits;
 use std::alloc::{AllocError, Global};
@@ -62,6 +63,10 @@ struct Walk {
     unanswered: Links,
     /// By operation, the place of its reply, or none.
     replies: Vec<u32>,
+    /// By operation, the last one before it that changes alike, if neither replies.
+    elders: Vec<usize>,
+    /// By operation, whether it took effect, if it has no reply.
+    is_used: Vec<bool>,
     /// How many replies are left.
     left: usize,
     /// How few were left at any time, and how many changes were tried then.
@@ -110,6 +115,8 @@ impl Walk {
             answered: Links::new(alloc, events.len())?,
             unanswered: Links::new(alloc, events.len())?,
             replies: vec![in alloc; HEAD; ops.len()]?,
+            elders: elders(alloc, ops)?,
+            is_used: vec![in alloc; false; ops.len()]?,
             left: 0,
             fewest: usize::MAX,
             tried_then: 0,
@@ -175,7 +182,11 @@ impl Walk {
         let Some(op) = ops.get(number as usize) else {
             return Ok(false);
         };
-        if is_due(self.cursor.turn, op) && suits(op, self.value) && self.is_untried(number, op) {
+        if is_due(self.cursor.turn, op)
+            && suits(op, self.value)
+            && self.is_first(number)
+            && self.is_untried(number, op)
+        {
             self.choose(number, op)?;
         } else {
             self.cursor.at = self.after(self.cursor);
@@ -189,6 +200,17 @@ impl Walk {
             self.unanswered.after(cursor.at)
         } else {
             self.answered.after(cursor.at)
+        }
+    }
+
+    /// Whether each call before this one that changes alike took effect, if none of them replies.
+    fn is_first(&self, number: u32) -> bool {
+        let Some(elder) = self.elders.get(number as usize) else {
+            return true;
+        };
+        match self.is_used.get(*elder) {
+            Some(is_used) => *is_used,
+            None => true,
         }
     }
 
@@ -243,6 +265,7 @@ impl Walk {
     fn take_out(&mut self, number: u32, cursor: Cursor) {
         if cursor.turn == Turn::Unanswered {
             self.unanswered.take_out(cursor.at);
+            self.note_use(number, true);
             return;
         }
         if let Some(reply) = self.replies.get(number as usize) {
@@ -256,12 +279,20 @@ impl Walk {
     fn put_back(&mut self, number: u32, cursor: Cursor) {
         if cursor.turn == Turn::Unanswered {
             self.unanswered.put_back(cursor.at);
+            self.note_use(number, false);
             return;
         }
         self.answered.put_back(cursor.at);
         if let Some(reply) = self.replies.get(number as usize) {
             self.answered.put_back(*reply);
             self.left = self.left.saturating_add(1);
+        }
+    }
+
+    /// Notes whether a call without a reply took effect.
+    fn note_use(&mut self, number: u32, is_used: bool) {
+        if let Some(noted) = self.is_used.get_mut(number as usize) {
+            *noted = is_used;
         }
     }
 
