@@ -8,7 +8,7 @@ use crate::bounds::Bound;
 use crate::depth_first::depth_first;
 use crate::eased::eased_run;
 use crate::moment::Moment;
-use crate::op::{NEVER, Op, looks};
+use crate::op::{NEVER, Op, looks, writes};
 use crate::reached::Reached;
 use crate::relay::relay;
 use crate::run::run;
@@ -66,7 +66,7 @@ const ALL: u64 = 64;
 /// The stages if some changes have no reply: first those that are quick where they suffice, with few steps.
 /// An exact one comes before an eased one, since the reply that the latter names need not be the first
 /// hopeless one. The last is as wide as the bounds allow.
-const STAGES: [Stage; 16] = [
+const STAGES: [Stage; 13] = [
     stage!(DepthFirst, 1, 1, 32),
     stage!(Thriftiest, 8, MOST, 2),
     stage!(Thriftiest, 32, MOST, 2),
@@ -76,20 +76,16 @@ const STAGES: [Stage; 16] = [
     stage!(Eased, MOST, 4_096, 2),
     stage!(Relay, 5, MOST, 58),
     stage!(Thrifty, 32, MOST, 13),
-    stage!(Exact, MOST, 256, 20),
     stage!(Guided, 8, MOST, 8),
-    stage!(Guided, 32, MOST, 8),
-    stage!(Eased, MOST, 4_096, 52),
-    stage!(Exact, MOST, 1_024, 24),
-    stage!(Guided, 128, MOST, 4),
+    stage!(Exact, MOST, 2_048, 24),
+    stage!(Eased, MOST, 8_192, 56),
     stage!(Exact, MOST, MOST, ALL),
 ];
 
 /// The stages if each change has a reply.
-const ANSWERED: [Stage; 4] = [
+const ANSWERED: [Stage; 3] = [
     stage!(Exact, MOST, 256, 48),
-    stage!(Guided, 32, MOST, 48),
-    stage!(Guided, 64, MOST, 48),
+    stage!(Relay, 5, MOST, 48),
     stage!(Exact, MOST, MOST, ALL),
 ];
 
@@ -124,7 +120,7 @@ pub(crate) fn in_stages<const W: usize>(
         match run_stage::<W>(alloc, ops, events, *stage, &mut limits)? {
             Reached::Stopped(met) => bound = met,
             found => {
-                if stage.form != Form::Eased {
+                if stage.form != Form::Eased || !are_some_eased(ops) {
                     return Ok(found);
                 }
                 let again = given.saturating_sub(limits.steps) / 4;
@@ -182,6 +178,12 @@ fn place_of(found: &Reached) -> usize {
 /// Whether some changes have no reply.
 fn has_unanswered_changes(ops: &[Op]) -> bool {
     ops.iter().any(|op| op.rank >= NEVER && !looks(op))
+}
+
+/// Whether a cas without a reply is among them, so that an eased stage goes over others.
+fn are_some_eased(ops: &[Op]) -> bool {
+    ops.iter()
+        .any(|op| op.rank >= NEVER && !looks(op) && !writes(op))
 }
 
 /// One stage, within its share of the limits. The steps that are left remain.
