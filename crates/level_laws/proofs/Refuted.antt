@@ -18,17 +18,20 @@ use Rattle.level_laws.specs.Evidence.Evidence.{unwritten, early, cycle}
 module _ (g : Guarantee) (ops order : List Operation) (y : IsHistory ops) (l : IsLegalFor g ops order) where
   -- what leads to what stands before it
   pub forward : (v w : Operation) → LeadsTo g ops v w → Before v w order
-  forward v w k = elim (Before-total v w order (kept-in g ops order y l v k.left)
-      (kept-in g ops order y l w k.right)) [
-    | inl e ↦ absurd (k.differ (ap value_of e))
-    | inr s ↦ elim s [
-      | inl b ↦ b
-      | inr b ↦ absurd (apart g ops order y l w v k.after k.before k.right k.left b k.other k.one k.must)
-    ]
-  ]
+  forward v w k =
+      let left = kept-in g ops order y l v k.left in
+      let right = kept-in g ops order y l w k.right in
+      elim (Before-total v w order left right) [
+        | inl e ↦ absurd (k.differ (ap value_of e))
+        | inr s ↦ elim s [
+          | inl b ↦ b
+          | inr b ↦ absurd (apart g ops order y l w v k.after k.before k.right k.left b k.other k.one k.must)
+        ]
+      ]
 
   in_time : (r w : Operation) → IsTooEarly g ops r w → ⊥
-  in_time r w e = l.keeps w r (nearest g ops order y l r w e.within e.read e.write_within e.write).before e.must
+  in_time r w e =
+      l.keeps w r (nearest g ops order y l r w e.within e.read e.write_within e.write).before e.must
 
   written : (r : Operation) → IsUnwritten ops r → ⊥
   written r u =

@@ -23,17 +23,20 @@ module _ (ops order : List Operation) (y : IsHistory ops) (l : IsLegal ops order
       apart Atomic ops order y l v w a.0 b.0 kv kw s a.1 b.1 (omega (arith, a.2, b.2))
 
   no_conflict : (v w : Operation) → IsConflict ops v w → ⊥
-  no_conflict v w c = elim (Before-total v w order (kept-in Atomic ops order y l v c.left)
-      (kept-in Atomic ops order y l w c.right)) [
-    | inl e ↦ c.differ (ap value_of e)
-    | inr s ↦ elim s [
-      | inl b ↦ one_way v w c.left c.right b c.other
-      | inr b ↦ one_way w v c.right c.left b c.one
-    ]
-  ]
+  no_conflict v w c =
+      let left = kept-in Atomic ops order y l v c.left in
+      let right = kept-in Atomic ops order y l w c.right in
+      elim (Before-total v w order left right) [
+        | inl e ↦ c.differ (ap value_of e)
+        | inr s ↦ elim s [
+          | inl b ↦ one_way v w c.left c.right b c.other
+          | inr b ↦ one_way w v c.right c.left b c.one
+        ]
+      ]
 
   no_early : (r w : Operation) → IsEarly ops r w → ⊥
-  no_early r w e = l.keeps w r (nearest Atomic ops order y l r w e.within e.read e.write_within e.write).before e.early
+  no_early r w e =
+      l.keeps w r (nearest Atomic ops order y l r w e.within e.read e.write_within e.write).before e.early
 
   pub sound : HasNoFault ops
   sound = record {
