@@ -1,8 +1,8 @@
+pub mod Linked
 pub mod Kept
 pub mod Named
-pub mod Backward
 pub mod Begun
-pub mod Parted
+pub mod Listed
 pub mod Initials
 pub mod Timed
 pub mod Rows

@@ -15,7 +15,7 @@
 //! and `reason`, why an event is refused; `naming`, which numbers the registers; `act` and `calls`, which
 //! make the operations; `registers`, which parts them; `history`; `events`, which takes events in and makes
 //! their history; and `lines` and `intake`, which read them. `Kept` defines what the code keeps beside its
-//! lists.
+//! lists, and `Listed` how the operations of each register are listed.
 
 mod act;
 mod agrees;

@@ -1,16 +1,18 @@
 -- Each register has its initial write, and no other register has an operation.
-use Rattle.std.proofs.Common.{◌≡◌, ℕ, zero, suc, ◌<◌, not, Bool, true, false, List}
+use Rattle.std.proofs.Common.{◌≡◌, ℕ, zero, suc, ◌+◌, ◌<◌, not, Bool, true, false, List, take, drop}
 use Rattle.std.proofs.Common.{[], ◌∷◌, ◌++◌, length, slice_get, Option, Some, None, option_map}
 use Rattle.std.proofs.Common.{inl, inr, refl, sym, ap, subst, ◌∙◌, arith}
 use Rattle.std.specs.Prelude.{bytes_eq, filter_map}
-use Rattle.std.specs.List.{cons_option}
+use Rattle.std.specs.List.{cons_option, position_or_len}
 use Rattle.std.proofs.lemmas.Bool.{eqb-true}
+use Rattle.std.proofs.lemmas.List.{take-append-drop}
 use Rattle.std.proofs.lemmas.List.Elements.{filter-append}
 use Rattle.std.proofs.lemmas.Slice.Eq.{bytes_eq-Decides}
 use Rattle.history_model.specs.History.{first_names}
 use Rattle.history_model.specs.Lists.{In}
 use Rattle.history_model.proofs.Lists.{In-filter}
-use Rattle.history_model.proofs.Numbers.{place-in}
+use Rattle.history_model.proofs.Accepted.{take-get}
+use Rattle.history_model.proofs.Numbers.{place-append, place-in}
 use Rattle.history_text.specs.declared.event.AnyEvent.{AnyEvent}
 use Rattle.history_model.specs.declared.operation.Operation.{Operation}
 use Rattle.history_model.specs.Operations.{initial_write, initial_writes, is_of, of_register}
@@ -19,6 +21,7 @@ use Rattle.reg_intake.specs.CasHistory.Events.{Called, called_by}
 use Rattle.reg_intake.specs.CasHistory.History.{calls, calls_of, any_calls, number_of, operations}
 use Rattle.reg_intake.specs.CasHistory.History.{register_names}
 use Rattle.history_model.proofs.Accepted.{some-of}
+use Rattle.reg_intake.proofs.CasHistoryLemmas.Named.{names-grow}
 use Rattle.history_model.proofs.Initials.{none-initial, one-initial}
 use Rattle.history_model.proofs.Timed.{call-at}
 
@@ -68,6 +71,23 @@ call-register events a i =
     let known = In-first _ call.0.register (called-In events c.place c.event call.0 c.there call.1) in
     let place = c.register ∙ ap (number_of (register_names events)) call.1 in
     omega (arith, place, (place-in call.0.register (register_names events) known).0)
+
+-- the number of a call's register, by the names of the events up to it
+pub number-kept : (events : List AnyEvent) (i : ℕ) (e : AnyEvent) → slice_get events i ≡ Some e
+    → number_of (register_names (take (i + 1) events)) (called_by e.kind)
+    ≡ number_of (register_names events) (called_by e.kind)
+number-kept events i e at = go (called_by e.kind) refl
+  where
+    go : (o : Option Called) → called_by e.kind ≡ o
+        → number_of (register_names (take (i + 1) events)) o ≡ number_of (register_names events) o
+    go None d = refl
+    go (Some call) d =
+        let inside = take-get events (i + 1) i (omega arith) ∙ at in
+        let known = In-first _ call.register (called-In (take (i + 1) events) i e call inside d) in
+        let more = names-grow (take (i + 1) events) (drop (i + 1) events) in
+        sym (ap (position_or_len (bytes_eq call.register))
+        (ap register_names (sym (take-append-drop (i + 1) events)) ∙ more.1)
+        ∙ place-append call.register (register_names (take (i + 1) events)) more.0 known)
 
 -- ---- all operations
 

@@ -1,7 +1,7 @@
 -- The names of registers and their numbers, as one more is called.
 use Rattle.std.proofs.Common.{◌≡◌, ℕ, ◌<◌, ◌≤◌, ◌+◌, cond, Bool, true, false, List, [], ◌∷◌, ◌++◌, length}
 use Rattle.std.proofs.Common.{map, Option, Some, None, inl, inr, refl, sym, ap, subst, ◌∙◌, arith, eqb}
-use Rattle.std.proofs.Common.{nat_lt, unwrap_or, is_some, length-append, append-nil, option_map}
+use Rattle.std.proofs.Common.{nat_lt, unwrap_or, length-append, append-nil, append_assoc, option_map}
 use Rattle.std.specs.Prelude.{filter_map, bytes_eq}
 use Rattle.std.specs.List.{position_or_len}
 use Rattle.std.proofs.lemmas.Bool.{eqb-true, eqb-false, ltb-true, ltb-false, false≢true}
@@ -13,12 +13,12 @@ use Rattle.history_text.specs.declared.event.Kind.TheVariants.{CallRead}
 use Rattle.history_text.specs.declared.event.LineEvent.{LineEvent}
 use Rattle.history_model.specs.Events as plain
 use Rattle.history_model.specs.History as plain_history
-use Rattle.history_model.proofs.Numbers.{is-In, place-in, place-out, names-known, names-new}
+use Rattle.history_model.proofs.Numbers.{is-In, place-in, place-last, place-out, names-known, names-new}
 use Rattle.history_text.specs.declared.event.AnyEvent.{AnyEvent}
 use Rattle.reg_intake.specs.CasHistory.Events.{Called, called_by}
 use Rattle.reg_intake.specs.CasHistory.History.{register_names}
 use Rattle.history_model.specs.History.{first_names}
-use Rattle.reg_intake.specs.CasHistory.Kept.{AreNumbered, with_name}
+use Rattle.reg_intake.specs.CasHistory.Kept.{AreNumbered, names_with, with_called, with_name}
 
 abbrev Name : Type 0
 Name = List ℕ
@@ -202,15 +202,70 @@ numbered-push names name old new a absent is = record {
         let same : length names ≡ n = cc (h) in omega (arith, same, length-append names (name ∷ []))
     inside q n false o d h = omega (arith, a.within q n (d ∙ h), length-append names (name ∷ []))
 
-pub with-found : (names : List Name) (number : Name → Option ℕ) → AreNumbered names number → (name : Name)
-    → is_some (number name) ≡ true → with_name names name ≡ names
-with-found names number a name h = go (number name) refl h
+-- a name that stands after all others has no number
+pub no-number : (names : List Name) (number : Name → Option ℕ) → AreNumbered names number → (name : Name)
+    → position_or_len (bytes_eq name) names ≡ length names → number name ≡ None
+no-number names number a name h = go (number name) refl
   where
-    go : (o : Option ℕ) → number name ≡ o → is_some o ≡ true → with_name names name ≡ names
-    go None d h = absurd (false≢true h)
-    go (Some n) d h =
-        let k = place-known names number a name n d in with-known names name (omega (arith, k.0, k.1))
+    go : (o : Option ℕ) → number name ≡ o → o ≡ None
+    go None d = refl
+    go (Some n) d = let k = place-known names number a name n d in absurd (omega (arith, h, k.0, k.1))
 
-pub none-found : (o : Option ℕ) → is_some o ≡ false → o ≡ None
-none-found None h = refl
-none-found (Some n) h = absurd (false≢true (sym h))
+-- the number of a name, by the names with it
+pub number-with : (names : List Name) (name : Name)
+    → position_or_len (bytes_eq name) (with_name names name) ≡ position_or_len (bytes_eq name) names
+number-with names name = elim (is-In name names) [
+  | inl i ↦ ap (position_or_len (bytes_eq name)) (with-known names name (place-in name names i).0)
+  | inr f ↦
+      ap (position_or_len (bytes_eq name)) (with-new names name (place-out name names f))
+      ∙ (place-last name names f ∙ sym (place-out name names f))
+]
+
+pub below-with : (names : List Name) (name : Name)
+    → position_or_len (bytes_eq name) names < length (with_name names name)
+below-with names name = elim (is-In name names) [
+  | inl i ↦
+      let within = (place-in name names i).0 in
+      omega (arith, within, ap length (with-known names name within))
+  | inr f ↦
+      let out = place-out name names f in
+      omega (arith, out, ap length (with-new names name out), length-append names (name ∷ []))
+]
+
+pub length-called : (names : List Name) (o : Option Called) → length (with_called names o) ≤ length names + 1
+length-called names None = omega arith
+length-called names (Some call) = length-with names call.register
+
+-- ---- the names of some events, and of more
+
+-- the names of one event more
+pub names-step : (events : List AnyEvent) (e : AnyEvent)
+    → register_names (events ++ e ∷ []) ≡ names_with (register_names events) e
+names-step events e = go (called_by e.kind) refl
+  where
+    go : (o : Option Called) → called_by e.kind ≡ o
+        → register_names (events ++ e ∷ []) ≡ with_called (register_names events) o
+    go None d = names-other events e d
+    go (Some call) d = names-call events e call d
+
+longer-with : (names : List Name) (o : Option Called) → (more : List Name) × (with_called names o ≡ names ++ more)
+longer-with names None = ([], sym (append-nil names))
+longer-with names (Some call) =
+    go (nat_lt (position_or_len (bytes_eq call.register) names) (length names))
+  where
+    go : (b : Bool) → (more : List Name) × (cond b names (names ++ call.register ∷ []) ≡ names ++ more)
+    go true = ([], sym (append-nil names))
+    go false = (call.register ∷ [], refl)
+
+-- the names of some events stay the first ones
+pub names-grow : (events after : List AnyEvent)
+    → (more : List Name) × (register_names (events ++ after) ≡ register_names events ++ more)
+names-grow events [] = ([], ap register_names (append-nil events) ∙ sym (append-nil (register_names events)))
+names-grow events (e ∷ after) =
+    let later = names-grow (events ++ e ∷ []) after in
+    let one = longer-with (register_names events) (called_by e.kind) in (
+      one.0 ++ later.0,
+      ap register_names (sym (append_assoc events (e ∷ []) after))
+          ∙ (later.1 ∙ (ap (λ names. names ++ later.0) (names-step events e ∙ one.1)
+          ∙ append_assoc (register_names events) one.0 later.0)),
+    )

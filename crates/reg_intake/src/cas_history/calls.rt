@@ -1,76 +1,42 @@
 //! The operations of the calls, each by the next event of its process.
-ghost use Rattle.std.specs.Prelude.{◌≡◌, ◌≤◌, ◌+◌, ℕ, List, Some, length, map, reverse, IfOk, option_map};
-ghost use Rattle.std.specs.Prelude.{unwrap_or};
-ghost use Rattle.std.specs.Ordering.{nat_cmp};
-ghost use Rattle.std.specs.BTreeMap.{get};
+ghost use Rattle.std.specs.Prelude.{◌≡◌, ◌≤◌, ℕ, List, Some, length, map, IfOk, IfSome, option_map, unwrap_or};
 ghost use Rattle.history_model.specs.Calls as all;
+ghost use Rattle.reg_intake.specs.CasHistory.Events.{called_by};
 ghost use Rattle.reg_intake.specs.CasHistory.History as defined;
 ghost use Rattle.reg_intake.specs.CasHistory.Kept.{event_at, operation_at as begun_at};
 
 use crate::cas_history::act::{pending_act, replied_act};
 use crate::cas_history::agrees::word_asked;
-use crate::cas_history::naming::Naming;
 use crate::cas_history::said::{Asked, called, failed, replied, told};
 use history_model::{Act, Operation};
 use history_text::{AnyEvent, MAX_EVENTS, OpWord};
 use std::alloc::{AllocError, Global};
-use std::collections::BTreeMap;
 
-/// The calls that didn't fail, the last first. The events are gone through from the last one back, so the
-/// next event of each process is known.
-pub(crate) fn calls_backward(
-    alloc: Global,
-    events: &[AnyEvent],
-    naming: &Naming,
-) -> Result<Vec<Operation>, AllocError>
-    requires events_few { length events.now ≤ MAX_EVENTS }
-    requires names_few { length naming.now ≤ MAX_EVENTS }
-    ensures { IfOk result (λ calls. reverse calls.items
-        ≡ all.calls_from (defined.any_calls naming.now) (length events.now + 2) 2 events.now) }
-{
-    let after_all = events.len() as u32 + 2;
-    let mut calls = Vec::new(alloc);
-    let mut next_places = BTreeMap::new(alloc);
-    for place in (0..events.len()).rev() {
-        let event = &events[place];
-        let next = next_event(events, &next_places, event.process);
-        if let Some(operation) = operation_at(after_all, naming, place as u32 + 2, event, next) {
-            calls.push(operation)?;
-        }
-        next_places.insert(event.process, place)?;
-    }
-    Ok(calls)
-}
-
-/// The next event of a process, with its time, where these are the places of the next events.
-fn next_event<'a>(
-    events: &'a [AnyEvent],
-    next_places: &BTreeMap<u32, usize>,
-    process: u32,
-) -> Option<(u32, &'a AnyEvent)>
+/// The event at this place, if there is one, with its time.
+pub(crate) fn next_event(events: &[AnyEvent], place: Option<u32>) -> Option<(u32, &AnyEvent)>
     requires { length events.now ≤ MAX_EVENTS }
-    ensures { option_map (λ next. (next.0, next.1.now)) result
-        ≡ event_at events.now (get nat_cmp next_places.now process) }
+    ensures { option_map (λ next. (next.0, next.1.now)) result ≡ event_at events.now place }
 {
-    let place = *next_places.get(&process)?;
-    let event = events.get(place)?;
-    Some((place as u32 + 2, event))
+    let place = place?;
+    let event = events.get(place as usize)?;
+    Some((place + 2, event))
 }
 
 /// The operation that an event at this time begins, if it is a call that didn't fail: by the next event of
 /// its process. A missing reply has the time `after_all`.
-fn operation_at(
+pub(crate) fn operation_at(
     after_all: u32,
-    naming: &Naming,
+    register: u32,
     time: u32,
     event: &AnyEvent,
     next: Option<(u32, &AnyEvent)>,
 ) -> Option<Operation>
-    requires { length naming.now ≤ MAX_EVENTS }
-    ensures { result ≡ begun_at (defined.any_calls naming.now) after_all time event.now
+    ensures operation { (names : List (List ℕ)) → register ≡ defined.number_of names (called_by event.now.kind)
+        → result ≡ begun_at (defined.any_calls names) after_all time event.now
         (option_map (λ next. (next.0, next.1.now)) next.entry) }
+    ensures register { IfSome result (λ operation. operation.register ≡ register) }
 {
-    let Some((name, asked)) = called(&event.kind) else {
+    let Some((_name, asked)) = called(&event.kind) else {
         return None;
     };
     if has_failed(next) {
@@ -83,7 +49,7 @@ fn operation_at(
         reply: time_of(reply, after_all),
         completed: reply.is_some(),
         process: Some(event.process),
-        register: naming.register(name),
+        register,
         act: act_of(asked, reply),
     })
 }

@@ -1,18 +1,18 @@
 //! The events of the lines so far.
-ghost use Rattle.std.specs.Prelude.{◌≡◌, ◌++◌, ◌∷◌, [], None, IfErr, IfOk, OnErr, OnOk};
+ghost use Rattle.std.specs.Prelude.{◌≡◌, ◌<◌, ◌++◌, ◌∷◌, [], None, IfErr, IfOk, IfSome, OnErr, OnOk, length};
 ghost use Rattle.std.specs.Option.{option_copied};
 ghost use Rattle.history_model.specs.Table.{last_event};
 ghost use Rattle.reg_intake.specs.CasHistory.Events.{any_form};
 ghost use Rattle.reg_intake.specs.CasHistory.History.{IsHistoryOf};
+ghost use Rattle.reg_intake.specs.CasHistory.Kept.{linked_from};
 ghost use Rattle.reg_intake.specs.CasHistory.Refusals.{IsTakeError, event_refusal as refusal_of};
 
-use crate::cas_history::calls::{call_words, calls_backward};
+use crate::cas_history::calls::call_words;
 use crate::cas_history::history::History;
-use crate::cas_history::naming::Naming;
 use crate::cas_history::reason::event_refusal;
-use crate::cas_history::registers::by_register;
+use crate::cas_history::registers::Registers;
 use history_model::BuildError;
-use history_text::AnyEvent;
+use history_text::{AnyEvent, MAX_EVENTS};
 use std::alloc::{AllocError, Global};
 use std::collections::BTreeMap;
 use std::marker::Model;
@@ -21,6 +21,8 @@ use std::marker::Model;
 #[derive(Drop)]
 pub struct Events {
     events: Vec<AnyEvent>,
+    /// The place of the next event of each event's process, if there is one.
+    next: Vec<Option<u32>>,
     /// The place of each process's last event.
     last: BTreeMap<u32, usize>,
 }
@@ -36,7 +38,7 @@ impl Model for Events {
 
     ghost view = { λ e. e.events.items };
 
-    ghost invariant = { λ e. IsKept e.events.items (get nat_cmp e.last) };
+    ghost invariant = { λ e. IsKept e.events.items e.next.items (get nat_cmp e.last) };
 }
 
 impl Events {
@@ -46,6 +48,7 @@ impl Events {
     {
         Events {
             events: Vec::new(alloc),
+            next: Vec::new(alloc),
             last: BTreeMap::new(alloc),
         }
     }
@@ -66,13 +69,15 @@ impl Events {
             return Err(BuildError::Refused(refusal));
         }
         let process = event.process;
-        if self.events.push(event).is_err() {
-            return Err(BuildError::Memory);
-        }
+        push_unlinked(&mut self.events, &mut self.next, event)?;
         match self.last.insert(process, place) {
-            Ok(_) => Ok(()),
+            Ok(before) => {
+                link(&mut self.next, before, place);
+                Ok(())
+            }
             Err(_) => {
                 self.events.truncate(place);
+                self.next.truncate(place);
                 Err(BuildError::Memory)
             }
         }
@@ -92,19 +97,51 @@ impl Events {
     pub fn history(self, alloc: Global) -> Result<History, AllocError>
         ensures { IfOk result (IsHistoryOf self) }
     {
-        let naming = Naming::of(alloc, &self.events)?;
-        let backward = calls_backward(alloc, &self.events, &naming)?;
-        let names = naming.into_names();
-        let operations = backward.len();
-        let registers = by_register(alloc, names.len(), backward)?;
+        let Registers {
+            naming,
+            operations: registers,
+            count: operations,
+        } = Registers::of(alloc, &self.events, &self.next)?;
         let lines = self.events.iter().map(|event| event.line).collect(alloc)?;
         let words = call_words(alloc, &self.events)?;
         Ok(History {
-            names,
+            names: naming.into_names(),
             registers,
             operations,
             lines,
             words,
         })
+    }
+}
+
+/// Adds an event without a next one. If memory runs out, the lists stay as they are.
+fn push_unlinked(
+    events: &mut Vec<AnyEvent>,
+    next: &mut Vec<Option<u32>>,
+    event: AnyEvent,
+) -> Result<(), AllocError>
+    ensures events { OnOk result (events.new.items ≡ events.old.items ++ event ∷ []) }
+    ensures next { OnOk result (next.new.items ≡ next.old.items ++ None ∷ []) }
+    ensures same_events { OnErr result (events.new.items ≡ events.old.items) }
+    ensures same_next { OnErr result (next.new.items ≡ next.old.items) }
+{
+    next.push(None)?;
+    match events.push(event) {
+        Ok(()) => Ok(()),
+        Err(_) => {
+            next.pop();
+            Err(AllocError)
+        }
+    }
+}
+
+/// Links the event at this place to the one before it of its process, if there is one.
+fn link(next: &mut Vec<Option<u32>>, before: Option<usize>, place: usize)
+    requires before { IfSome before (λ i. i < length next.old.items) }
+    requires place { place < MAX_EVENTS }
+    ensures { next.new.items ≡ linked_from next.old.items before place }
+{
+    if let Some(before) = before {
+        next[before] = Some(place as u32);
     }
 }

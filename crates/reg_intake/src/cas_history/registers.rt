@@ -1,45 +1,122 @@
-//! The operations of each register by themselves.
-ghost use Rattle.std.specs.Prelude.{◌≡◌, [], length, reverse, IfOk, OnOk};
-ghost use Rattle.reg_intake.specs.CasHistory.Kept.{Adds, AreParted};
+//! The registers that events call, and the operations of each.
+ghost use Rattle.std.specs.Prelude.{◌≡◌, ◌≤◌, ◌<◌, ◌+◌, ◌++◌, ℕ, List, [], bytes_eq, length, IfOk, OnOk};
+ghost use Rattle.std.specs.Prelude.{option_map};
+ghost use Rattle.std.specs.List.{position_or_len};
+ghost use Rattle.reg_intake.specs.CasHistory.Events.{called_by};
+ghost use Rattle.reg_intake.specs.CasHistory.History.{any_calls, number_of};
+ghost use Rattle.reg_intake.specs.CasHistory.Kept.{AreLinked, names_with, operation_at as begun_at, with_name};
+ghost use Rattle.reg_intake.specs.CasHistory.Listed.{Adds, IsHistoryBy, listed};
 
+use crate::cas_history::calls::{next_event, operation_at};
+use crate::cas_history::naming::Naming;
+use crate::cas_history::said::called;
 use history_model::Operation;
+use history_text::{AnyEvent, MAX_EVENTS, Name};
 use std::alloc::{AllocError, Global};
 
-/// The operations of each of `count` registers. Those given are all operations, the last first.
-pub(crate) fn by_register(
-    alloc: Global,
-    count: usize,
-    mut backward: Vec<Operation>,
-) -> Result<Vec<Vec<Operation>>, AllocError>
-    ensures count { IfOk result (λ registers. length registers.items ≡ count) }
-    ensures each { IfOk result (λ registers. AreParted (reverse backward.items) registers.items) }
-{
-    let mut registers = none_each(alloc, count)?;
-    while let Some(operation) = backward.pop() {
-        add(&mut registers, operation)?;
-    }
-    Ok(registers)
+/// The registers that some events call, and their operations.
+#[derive(Drop)]
+pub(crate) struct Registers {
+    pub(crate) naming: Naming,
+    /// The operations of each register, by call.
+    pub(crate) operations: Vec<Vec<Operation>>,
+    /// How many operations there are in all.
+    pub(crate) count: usize,
 }
 
-fn none_each(alloc: Global, count: usize) -> Result<Vec<Vec<Operation>>, AllocError>
-    ensures count { IfOk result (λ registers. length registers.items ≡ count) }
-    ensures none { IfOk result (λ registers. AreParted [] registers.items) }
-{
-    let mut registers = Vec::with_capacity(alloc, count)?;
-    for _ in 0..count {
-        registers.push(Vec::new(alloc))?;
+impl Registers {
+    /// The registers of these events, of each of which the place of its process's next event is given.
+    pub(crate) fn of(
+        alloc: Global,
+        events: &[AnyEvent],
+        next: &[Option<u32>],
+    ) -> Result<Self, AllocError>
+        requires few { length events.now ≤ MAX_EVENTS }
+        requires linked { AreLinked events.now next.now }
+        ensures { IfOk result (IsHistoryBy events.now) }
+    {
+        let after_all = events.len() as u32 + 2;
+        let mut registers = Registers::none(alloc);
+        for (place, event) in events.iter().enumerate() {
+            let next = next_event(events, next[place]);
+            registers.add_event(alloc, after_all, (place as u32 + 2, event), next)?;
+        }
+        Ok(registers)
     }
-    Ok(registers)
-}
 
-/// Adds an operation to its register, if that is there.
-fn add(registers: &mut Vec<Vec<Operation>>, operation: Operation) -> Result<(), AllocError>
-    ensures count { OnOk result (length registers.new.items ≡ length registers.old.items) }
-    ensures each { OnOk result (Adds registers.old.items registers.new.items operation) }
-{
-    let register = operation.register as usize;
-    if register < registers.len() {
-        registers[register].push(operation)?;
+    fn none(alloc: Global) -> Self
+        ensures names { result.naming ≡ [] }
+        ensures operations { result.operations.items ≡ [] }
+        ensures count { result.count ≡ 0 }
+    {
+        Registers {
+            naming: Naming::none(alloc),
+            operations: Vec::new(alloc),
+            count: 0,
+        }
     }
-    Ok(())
+
+    /// Takes in an event at its time: by the next event of its process, if there is one. A missing reply has
+    /// the time `after_all`.
+    fn add_event(
+        &mut self,
+        alloc: Global,
+        after_all: u32,
+        at: (u32, &AnyEvent),
+        next: Option<(u32, &AnyEvent)>,
+    ) -> Result<(), AllocError>
+        requires few { length self.old.naming < MAX_EVENTS }
+        requires fewer { self.old.count < MAX_EVENTS }
+        requires whole { length self.old.operations.items ≡ length self.old.naming }
+        ensures names { OnOk result (self.new.naming ≡ names_with self.old.naming at.entry.1.now) }
+        ensures whole { OnOk result (length self.new.operations.items ≡ length self.new.naming) }
+        ensures adds { OnOk result ((names : List (List ℕ))
+            → number_of self.new.naming (called_by at.entry.1.now.kind)
+            ≡ number_of names (called_by at.entry.1.now.kind)
+            → Adds self.old self.new (begun_at (any_calls names) after_all at.entry.0 at.entry.1.now
+            (option_map (λ next. (next.0, next.1.now)) next.entry))) }
+    {
+        let (time, event) = at;
+        let Some((name, _)) = called(&event.kind) else {
+            return Ok(());
+        };
+        let register = self.number(alloc, name)?;
+        match operation_at(after_all, register, time, event, next) {
+            Some(operation) => self.add(operation),
+            None => Ok(()),
+        }
+    }
+
+    /// The number of the register of this name, which is added if it is new.
+    fn number(&mut self, alloc: Global, name: &Name) -> Result<u32, AllocError>
+        requires few { length self.old.naming < MAX_EVENTS }
+        requires whole { length self.old.operations.items ≡ length self.old.naming }
+        ensures number { IfOk result (λ n. n ≡ position_or_len (bytes_eq name.now) self.new.naming) }
+        ensures below { IfOk result (λ n. n < length self.new.naming) }
+        ensures names { OnOk result (self.new.naming ≡ with_name self.old.naming name.now) }
+        ensures whole { OnOk result (length self.new.operations.items ≡ length self.new.naming) }
+        ensures listed { OnOk result ((r : ℕ)
+            → listed self.new.operations.items r ≡ listed self.old.operations.items r) }
+        ensures count { self.new.count ≡ self.old.count }
+    {
+        let number = self.naming.number(alloc, name)?;
+        if self.operations.len() < self.naming.len() {
+            self.operations.push(Vec::new(alloc))?;
+        }
+        Ok(number)
+    }
+
+    /// Adds an operation to those of its register.
+    fn add(&mut self, operation: Operation) -> Result<(), AllocError>
+        requires there { operation.register < length self.old.operations.items }
+        requires few { self.old.count < MAX_EVENTS }
+        ensures names { OnOk result (self.new.naming ≡ self.old.naming) }
+        ensures whole { OnOk result
+            (length self.new.operations.items ≡ length self.old.operations.items) }
+        ensures adds { OnOk result (Adds self.old self.new (Some operation)) }
+    {
+        self.operations[operation.register as usize].push(operation)?;
+        self.count += 1;
+        Ok(())
+    }
 }

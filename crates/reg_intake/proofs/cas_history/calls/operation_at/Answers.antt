@@ -2,7 +2,8 @@
 use Rattle.std.proofs.Common.{◌≡◌, ℕ, Option, Some, None, option_map, is_some, unwrap_or, refl, sym, ap, ◌∙◌}
 use Rattle.std.specs.Borrow.{Bor}
 use Rattle.history_text.specs.declared.event.AnyEvent.{AnyEvent}
-use Rattle.reg_intake.specs.CasHistory.History.{act_of}
+use Rattle.reg_intake.specs.CasHistory.Events.{Called}
+use Rattle.reg_intake.specs.CasHistory.History.{act_of, number_of}
 use Rattle.reg_intake.proofs.CasHistoryLemmas.Begun.{begun}
 use Rattle.reg_intake.proofs.cas_history.calls.operation_at.Goals as goal
 
@@ -24,15 +25,13 @@ event : (o : Option (ℕ × Bor AnyEvent)) → option_map (λ (next : ℕ × Bor
 event None = refl
 event (Some x) = refl
 
-pub returns : goal.returns
-returns c =
+pub returns-clause-operation : goal.returns-clause-operation
+returns-clause-operation c = λ names number.
     let reply = c.reply_in-reply.result in
-    begun c.args.naming.now c.args.after_all c.args.time c.args.event.now
-    (record { register = c.in-Some.name.now; asked = c.in-Some.asked }) (sym c.in-Some.ensures)
-    (seen c.args.next) (seen reply) (sym (c.has_failed.ensures c.args.naming.now) ∙ c.if-has_failed.false)
-    (c.reply_in-reply.ensures c.args.naming.now)
-    c.time_of.result c.is_some.result c.register.result c.act_of.result
+    let call : Called = record { register = c.in-Some._name.now; asked = c.in-Some.asked } in
+    begun names c.args.after_all c.args.time c.args.event.now call (sym c.in-Some.ensures)
+    (seen c.args.next) (seen reply) (sym (c.has_failed.ensures names) ∙ c.if-has_failed.false)
+    (c.reply_in-reply.ensures names) c.time_of.result c.is_some.result c.args.register c.act_of.result
     (c.time_of.ensures ∙ ap (λ o. unwrap_or o c.args.after_all) (time reply))
-    (c.is_some.ensures ∙ there reply) c.register.ensures
-    (c.act_of.ensures c.in-Some.name.now
-    ∙ ap (act_of (Some (record { register = c.in-Some.name.now; asked = c.in-Some.asked }))) (event reply))
+    (c.is_some.ensures ∙ there reply) (number ∙ ap (number_of names) (sym c.in-Some.ensures))
+    (c.act_of.ensures c.in-Some._name.now ∙ ap (act_of (Some call)) (event reply))
