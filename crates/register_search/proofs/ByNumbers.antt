@@ -1,8 +1,7 @@
 -- What can be explained of some operations can be explained of the same operations by numbers.
-use Rattle.std.proofs.Common.{◌≡◌, ℕ, zero, suc, ◌+◌, ◌<◌, ◌==◌, ℤ, not, cond, Bool, true, false}
+use Rattle.std.proofs.Common.{◌≡◌, ℕ, zero, suc, ◌+◌, ◌<◌, ◌==◌, not, cond, Bool, true, false}
 use Rattle.std.proofs.Common.{List, [], ◌∷◌, ◌++◌, length, take, get_or, slice_get, Option, Some}
 use Rattle.std.proofs.Common.{None, inl, refl, sym, ap, subst, ◌∙◌, add-one, arith}
-use Rattle.std.specs.BTreeMap.{BTreeMap}
 use Rattle.std.specs.List.{AllZip}
 use Rattle.std.proofs.Math.Seq.{take-suc}
 use Rattle.std.proofs.lemmas.Bool.{false≢true}
@@ -22,6 +21,7 @@ use Rattle.configurations.specs.declared.op.Kind.TheVariants as kinds
 use Rattle.configurations.specs.Ops as by
 use Rattle.configurations.specs.Runs.{AliveFree, over_free, called_free, replied_free, uses}
 use Rattle.configurations.proofs.Tables.{eq_true}
+use Rattle.register_search.specs.declared.value_numbers.ValueNumbers.{ValueNumbers}
 use Rattle.register_search.specs.Taking.{option_suits, option_left_by, suits_at, left_at}
 use Rattle.register_search.specs.Runs.{Alive, over, called, replied, takes}
 use Rattle.register_search.specs.ByNumbers.{IsNumbering, number_in, IsMore, DoesAs, IsCas, IsCasUnless}
@@ -83,7 +83,7 @@ each-push number (b ∷ ops) [] a o each is = absurd each
 each-push number (b ∷ ops) (p ∷ numbered) a o each is = (each.0, each-push number ops numbered a o each.1 is)
 
 -- one more operation, by more numbers
-pub each-more : (old new : BTreeMap ℤ ℕ) (ops : List Operation) (i : ℕ) (d : Operation)
+pub each-more : (old new : ValueNumbers) (ops : List Operation) (i : ℕ) (d : Operation)
     (before after : List Op) (o : Op) → i < length ops
     → IsMore old new → IsByNumber (number_in new) (get_or ops i d) o → after ≡ before ++ o ∷ []
     → AllZip (IsByNumber (number_in old)) (take i ops) before

@@ -11,3 +11,4 @@ pub mod Beginnings
 pub mod Checking
 pub mod Timed
 pub mod Needed
+mod Ascending

@@ -1,16 +1,15 @@
 -- Which numbers are given, and why a needed one that nobody gives leaves no legal order.
 use Rattle.std.proofs.Common.{◌≡◌, ◌↔◌, ℕ, ◌+◌, ◌<◌, ℤ, cond, not, Bool, true, false}
 use Rattle.std.proofs.Common.{List, [], ◌∷◌, ◌++◌, take, length, get_or, slice_get, ◌≤◌}
-use Rattle.std.proofs.Common.{arith, Result, Ok, Err, IfOk, Option, Some, None, IsTrue}
-use Rattle.std.proofs.Common.{IsSomeAnd, inl, inr, refl, sym, ap, subst, ◌∙◌, add-one}
+use Rattle.std.proofs.Common.{arith, Option, Some, None, IsTrue}
+use Rattle.std.proofs.Common.{IsSomeAnd, is_some, inl, inr, refl, sym, ap, subst, ◌∙◌, add-one}
 use Rattle.std.proofs.Math.Seq.{take-suc}
 use Rattle.std.proofs.lemmas.Bool.{false≢true, cases_Bool, cases_order}
 use Rattle.std.proofs.lemmas.Bool.Decides.{Decides-int_eq}
 use Rattle.std.proofs.lemmas.Option.{slice_get_within, slice_get-get_or}
-use Rattle.std.specs.List.{list_any}
-use Rattle.std.specs.Ordering.{int_cmp, int_eq}
-use Rattle.std.specs.BTreeMap.{is_at}
-use Rattle.std.specs.BTreeSet.{BTreeSet, contains}
+use Rattle.std.specs.Ordering.{int_eq}
+use Rattle.register_search.specs.declared.value_numbers.ValueNumbers.{ValueNumbers}
+use Rattle.register_search.specs.ValueNumbers.{has_number, number_at}
 use Rattle.history_text.specs.declared.event.Val.{Val}
 use Rattle.history_text.specs.declared.event.Val.TheVariants.{Null, Int}
 use Rattle.history_model.specs.Lists.{In}
@@ -27,10 +26,10 @@ use Rattle.register_search.specs.Unwritten.{IsGiven, IsUnwritten, HasGiven}
 
 -- ---- the given numbers
 
-pub none-given : (s : BTreeSet ℤ) → s.keys ≡ [] → HasGiven [] s
-none-given s e n = (λ t. absurd (false≢true (sym (ap (list_any (is_at (int_cmp n))) e) ∙ t)), λ g. absurd g.1)
+pub none-given : (s : ValueNumbers) → ((q : ℤ) → number_at s q ≡ None) → HasGiven [] s
+none-given s none n = (λ t. absurd (false≢true (sym (ap is_some (none n)) ∙ t)), λ g. absurd g.1)
 
-pub one-silent : (ops : List Operation) (a : Operation) (s : BTreeSet ℤ) → number_given a.act ≡ None
+pub one-silent : (ops : List Operation) (a : Operation) (s : ValueNumbers) → number_given a.act ≡ None
     → HasGiven ops s → HasGiven (ops ++ a ∷ []) s
 one-silent ops a s none h n = (
   λ t. let g = (h n).0 t in (g.0, In-left g.0 ops (a ∷ []) g.1, g.2),
@@ -44,28 +43,29 @@ one-silent ops a s none h n = (
   ],
 )
 
-one-given : (ops : List Operation) (a : Operation) (s t : BTreeSet ℤ) (m : ℤ) → number_given a.act ≡ Some m
-    → ((q : ℤ) → contains int_cmp t q ≡ cond (is_at (int_cmp m) q) true (contains int_cmp s q))
+pub one-given : (ops : List Operation) (a : Operation) (s t : ValueNumbers) (m : ℤ)
+    → number_given a.act ≡ Some m
+    → ((q : ℤ) → has_number t q ≡ cond (int_eq m q) true (has_number s q))
     → HasGiven ops s → HasGiven (ops ++ a ∷ []) t
 one-given ops a s t m gives adds h n = (
   λ there. elim (cases_Bool (int_eq m n)) [
     | inl e ↦ (a, In-right a ops (a ∷ []) (inl refl), gives ∙ ap Some ((Decides-int_eq m n).0 e))
     | inr e ↦
-        let before : contains int_cmp s n ≡ true =
-        sym (ap (λ b. cond b true (contains int_cmp s n)) e) ∙ (sym (adds n) ∙ there) in
+        let before : has_number s n ≡ true =
+        sym (ap (λ b. cond b true (has_number s n)) e) ∙ (sym (adds n) ∙ there) in
         let g = (h n).0 before in
         (g.0, In-left g.0 ops (a ∷ []) g.1, g.2)
   ],
   λ g. elim (append-In g.0 ops (a ∷ []) g.1) [
     | inl i ↦ adds n ∙ elim (cases_Bool (int_eq m n)) [
-      | inl e ↦ ap (λ b. cond b true (contains int_cmp s n)) e
-      | inr e ↦ ap (λ b. cond b true (contains int_cmp s n)) e ∙ (h n).1 (g.0, i, g.2)
+      | inl e ↦ ap (λ b. cond b true (has_number s n)) e
+      | inr e ↦ ap (λ b. cond b true (has_number s n)) e ∙ (h n).1 (g.0, i, g.2)
     ]
     | inr i ↦ elim i [
       | inl e ↦
           let q = sym gives ∙ (ap (λ (o : Operation). number_given o.act) (sym e) ∙ g.2) in
           let same : m ≡ n = cc (q) in
-          adds n ∙ ap (λ b. cond b true (contains int_cmp s n)) ((Decides-int_eq m n).1 same)
+          adds n ∙ ap (λ b. cond b true (has_number s n)) ((Decides-int_eq m n).1 same)
       | inr z ↦ absurd z
     ]
   ],
@@ -81,12 +81,12 @@ take-one ops i a e =
 
 -- ---- the needed ones
 
-pub unwritten-decides : (ops : List Operation) (s : BTreeSet ℤ) (a : Operation) (n : ℤ) (b : Bool)
-    → number_needed a ≡ Some n → b ≡ not (contains int_cmp s n) → HasGiven ops s
+pub unwritten-decides : (ops : List Operation) (s : ValueNumbers) (a : Operation) (n : ℤ) (b : Bool)
+    → number_needed a ≡ Some n → b ≡ not (has_number s n) → HasGiven ops s
     → (IsTrue b ↔ IsUnwritten ops a)
 unwritten-decides ops s a n b needs is h = (
   λ t. (n, needs, λ g. false≢true (sym (is ∙ ap not ((h n).1 g)) ∙ t)),
-  λ u. elim (cases_Bool (contains int_cmp s n)) [
+  λ u. elim (cases_Bool (has_number s n)) [
     | inl t ↦
         let q = sym needs ∙ u.1 in
         let same : n ≡ u.0 = cc (q) in
@@ -181,17 +181,9 @@ pub none-left : (ops : List Operation) (i : ℕ) → length ops ≤ i
 none-left ops i l below j a e = let k = slice_get_within ops j a e in below j a (omega arith) e
 
 -- one more operation of a list
-pub given-more : (ops : List Operation) (i : ℕ) (d : Operation) (s t : BTreeSet ℤ) → i < length ops
+pub given-more : (ops : List Operation) (i : ℕ) (d : Operation) (s t : ValueNumbers) → i < length ops
     → ((xs : List Operation) → HasGiven xs s → HasGiven (xs ++ get_or ops i d ∷ []) t)
     → HasGiven (take i ops) s → HasGiven (take (i + 1) ops) t
 given-more ops i d s t l more h =
     subst (λ xs. HasGiven xs t) (sym (take-one ops i (get_or ops i d) (slice_get-get_or ops i d l)))
     (more (take i ops) h)
-
--- unless memory ran out, the number of one more operation is added
-pub given-or-not : {X E : Type 0} (result : Result X E) (a : Operation) (s t : BTreeSet ℤ) (m : ℤ)
-    → number_given a.act ≡ Some m
-    → IfOk result (λ _. (q : ℤ) → contains int_cmp t q ≡ cond (int_eq m q) true (contains int_cmp s q))
-    → IfOk result (λ _. (ops : List Operation) → HasGiven ops s → HasGiven (ops ++ a ∷ []) t)
-given-or-not (Ok x) a s t m gives adds = λ ops. one-given ops a s t m gives adds
-given-or-not (Err e) a s t m gives adds = adds

@@ -1,9 +1,7 @@
 -- The operations of a register by numbers: their values go by numbers,
 -- and the times of their replies are ranks.
-use Rattle.std.specs.Prelude.{◌≡◌, ℕ, ◌+◌, ◌<◌, ◌≤◌, ◌==◌, ℤ, if◌then◌else◌, List, Option, Some, None}
-use Rattle.std.specs.BTreeMap.{BTreeMap, get, btree_map_len}
+use Rattle.std.specs.Prelude.{◌≡◌, ℕ, ◌<◌, ◌==◌, ℤ, if◌then◌else◌, List, Option, Some, None}
 use Rattle.std.specs.List.{AllZip}
-use Rattle.std.specs.Ordering.{int_cmp}
 use Rattle.history_text.specs.declared.event.Val.{Val}
 use Rattle.history_text.specs.declared.event.Val.TheVariants.{Null, Int}
 use Rattle.history_model.specs.declared.act.Act.{Act}
@@ -15,6 +13,8 @@ use Rattle.configurations.specs.declared.op.Kind.{Kind}
 use Rattle.configurations.specs.declared.op.Kind.TheVariants as kinds
 use Rattle.configurations.specs.declared.op.TheConstants.{NEVER}
 use Rattle.register_search.specs.declared.numbered.TheConstants.{NOTHING}
+use Rattle.register_search.specs.declared.value_numbers.ValueNumbers.{ValueNumbers}
+use Rattle.register_search.specs.ValueNumbers.{number_at}
 
 -- ---- values
 
@@ -24,19 +24,20 @@ pub record IsNumbering (number : Val → Option ℕ) : Type 0 where
   pub nothing : (v : Val) → number v ≡ Some NOTHING → ⊥
   pub apart : (v w : Val) (n : ℕ) → number v ≡ Some n → number w ≡ Some n → v ≡ w
 
--- the number of a value, if the map has those of integers
-abbrev pub number_in : BTreeMap ℤ ℕ → Val → Option ℕ
+-- the number of a value, if these are the numbers of integers
+abbrev pub number_in : ValueNumbers → Val → Option ℕ
 number_in numbers Null = Some 0
-number_in numbers (Int n) = get int_cmp numbers n
+number_in numbers (Int n) = number_at numbers n
 
--- the numbers of a map's integers come after `NOTHING`, no two have one, and the next number is new
-pub record AreNumbers (numbers : BTreeMap ℤ ℕ) : Type 0 where
-  pub above : (n : ℤ) (k : ℕ) → get int_cmp numbers n ≡ Some k → NOTHING < k
-  pub below : (n : ℤ) (k : ℕ) → get int_cmp numbers n ≡ Some k → k ≤ NOTHING + btree_map_len numbers
-  pub apart : (m n : ℤ) (k : ℕ) → get int_cmp numbers m ≡ Some k → get int_cmp numbers n ≡ Some k → m ≡ n
+-- the numbers of integers come after `NOTHING`, no two have one, and the next number is new
+pub record AreNumbers (numbers : ValueNumbers) : Type 0 where
+  pub above : (n : ℤ) (k : ℕ) → number_at numbers n ≡ Some k → NOTHING < k
+  pub below : (n : ℤ) (k : ℕ) → number_at numbers n ≡ Some k → k < numbers.next
+  pub next : NOTHING < numbers.next
+  pub apart : (m n : ℤ) (k : ℕ) → number_at numbers m ≡ Some k → number_at numbers n ≡ Some k → m ≡ n
 
--- a map of more numbers
-pub record IsMore (old new : BTreeMap ℤ ℕ) : Type 0 where
+-- more numbers
+pub record IsMore (old new : ValueNumbers) : Type 0 where
   pub numbers : AreNumbers old → AreNumbers new
   pub kept : (v : Val) (k : ℕ) → number_in old v ≡ Some k → number_in new v ≡ Some k
 

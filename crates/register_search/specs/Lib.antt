@@ -1,5 +1,6 @@
 pub mod Taking
 pub mod Runs
+pub mod ValueNumbers
 pub mod ByNumbers
 pub mod Timeline
 pub mod Timed

@@ -1,12 +1,12 @@
 -- Values that some operation needs and none gives (this project's profile).
 use Rattle.std.specs.Prelude.{◌≡◌, ◌↔◌, ℕ, ◌<◌, ℤ, cond, true, List, slice_get, Option, Some, None}
-use Rattle.std.specs.Ordering.{int_cmp}
-use Rattle.std.specs.BTreeSet.{BTreeSet, contains}
 use Rattle.history_text.specs.declared.event.Val.TheVariants.{Null, Int}
 use Rattle.history_model.specs.Lists.{In}
 use Rattle.history_model.specs.declared.act.Act.{Act}
 use Rattle.history_model.specs.declared.act.Act.TheVariants.{Read, Write, Cas, CasUnless, Miss}
 use Rattle.history_model.specs.declared.operation.Operation.{Operation}
+use Rattle.register_search.specs.declared.value_numbers.ValueNumbers.{ValueNumbers}
+use Rattle.register_search.specs.ValueNumbers.{has_number}
 
 -- the number that an act gives the register
 abbrev pub number_given : Act → Option ℤ
@@ -50,5 +50,5 @@ IsFirstUnwritten ops (Some k) =
     × ((j : ℕ) (a : Operation) → j < k → slice_get ops j ≡ Some a → IsUnwritten ops a → ⊥)
 
 -- the set has the numbers that the operations give
-abbrev pub HasGiven : List Operation → BTreeSet ℤ → Type 0
-HasGiven ops s = (n : ℤ) → ((contains int_cmp s n ≡ true) ↔ IsGiven ops n)
+abbrev pub HasGiven : List Operation → ValueNumbers → Type 0
+HasGiven ops s = (n : ℤ) → ((has_number s n ≡ true) ↔ IsGiven ops n)

@@ -19,10 +19,10 @@
 //! explained: each call takes effect before its reply, at a value that suits it. If so, the same operations
 //! by numbers can be explained. And `configurations` finds a reply up to which those can't.
 //!
-//! Read it in this order: `times`, which puts moments in order; `numbered`, operations by numbers; `segments`
-//! and `order`, the order that changes make; `forward`, the search; `check`, which checks an order; `cut`,
-//! what is known at a time; `verdict`, which answers; `unwritten` and `in_turn`, each by itself; and
-//! [`distinct_values`], whose answer is never unknown if there is no cas and no value repeats.
+//! Read it in this order: `times`, which puts moments in order; `value_numbers` and `numbered`, operations by
+//! numbers; `segments` and `order`, the order that changes make; `forward`, the search; `check`, which checks
+//! an order; `cut`, what is known at a time; `verdict`, which answers; `unwritten` and `in_turn`, each by
+//! itself; and [`distinct_values`], whose answer is never unknown if there is no cas and no value repeats.
 #![tactic(auto)]
 
 mod check;
@@ -35,6 +35,7 @@ mod order;
 mod segments;
 mod times;
 mod unwritten;
+mod value_numbers;
 mod verdict;
 
 pub use check::check_order;

@@ -1,14 +1,14 @@
 //! Operations by numbers.
-ghost use Rattle.std.specs.Prelude.{◌≡◌, Some, None, IfOk};
+ghost use Rattle.std.specs.Prelude.{◌≡◌, Some, IfOk};
 ghost use Rattle.history_text.specs.declared.event.Val.TheVariants.{Int};
 ghost use Rattle.register_search.specs.ByNumbers.{AreByNumbers, IsByNumber, IsCas, IsCasUnless, IsMore};
 ghost use Rattle.register_search.specs.ByNumbers.{IsOfOne, IsRank, number_in};
 
+use crate::value_numbers::ValueNumbers;
 use configurations::{Kind, NEVER, Op};
 use history_model::{Act, Operation};
 use history_text::Val;
 use std::alloc::{AllocError, Global};
-use std::collections::BTreeMap;
 
 /// The number of null.
 const NULL: u32 = 0;
@@ -27,7 +27,7 @@ pub(crate) struct Numbered {
 pub(crate) fn by_numbers(alloc: Global, ops: &[Operation]) -> Result<Numbered, AllocError>
     ensures { IfOk result (λ numbered. AreByNumbers ops.now numbered.ops.items) }
 {
-    let mut numbers = BTreeMap::new(alloc);
+    let mut numbers = ValueNumbers::new(alloc, NOTHING + 1);
     let mut numbered = Vec::new(alloc);
     for op in ops {
         let one = by_number(&mut numbers, op)?;
@@ -35,13 +35,13 @@ pub(crate) fn by_numbers(alloc: Global, ops: &[Operation]) -> Result<Numbered, A
     }
     Ok(Numbered {
         ops: numbered,
-        values: numbers.len() + 2,
+        values: numbers.next() as usize,
     })
 }
 
 /// An operation by numbers. A read whose value isn't known meets any value, and so does a cas that misses a
 /// number that no value has.
-fn by_number(numbers: &mut BTreeMap<i64, u32>, op: &Operation) -> Result<Op, AllocError>
+fn by_number(numbers: &mut ValueNumbers, op: &Operation) -> Result<Op, AllocError>
     ensures more { IfOk result (λ _. IsMore numbers.old numbers.new) }
     ensures op { IfOk result (λ o. IsByNumber (number_in numbers.new) op.now o) }
 {
@@ -124,7 +124,7 @@ fn rank(reply: Option<u32>) -> u64
 }
 
 /// The number of a value, which is a new one if it has none yet.
-fn number_of(numbers: &mut BTreeMap<i64, u32>, value: Val) -> Result<u32, AllocError>
+fn number_of(numbers: &mut ValueNumbers, value: Val) -> Result<u32, AllocError>
     ensures more { IfOk result (λ _. IsMore numbers.old numbers.new) }
     ensures number { IfOk result (λ number. number_in numbers.new value ≡ Some number) }
 {
@@ -135,28 +135,15 @@ fn number_of(numbers: &mut BTreeMap<i64, u32>, value: Val) -> Result<u32, AllocE
 }
 
 /// The number of an integer, which is a new one if it has none yet.
-fn number_of_integer(numbers: &mut BTreeMap<i64, u32>, value: i64) -> Result<u32, AllocError>
+fn number_of_integer(numbers: &mut ValueNumbers, value: i64) -> Result<u32, AllocError>
     ensures more { IfOk result (λ _. IsMore numbers.old numbers.new) }
     ensures number { IfOk result (λ number. number_in numbers.new (Int value) ≡ Some number) }
 {
-    match numbers.get(&value) {
-        Some(number) => Ok(*number),
-        None => add(numbers, value),
+    match numbers.find(value) {
+        Some(number) => Ok(number),
+        None => {
+            let number = numbers.add(value)?;
+            Ok(number)
+        }
     }
-}
-
-/// Gives an integer that has no number the next one. A history has too few events for more than fit.
-fn add(numbers: &mut BTreeMap<i64, u32>, value: i64) -> Result<u32, AllocError>
-    requires { number_in numbers.old (Int value) ≡ None }
-    ensures more { IfOk result (λ _. IsMore numbers.old numbers.new) }
-    ensures number { IfOk result (λ number. number_in numbers.new (Int value) ≡ Some number) }
-{
-    let Ok(last) = u32::try_from(numbers.len()) else {
-        return Err(AllocError);
-    };
-    let Some(number) = last.checked_add(NOTHING + 1) else {
-        return Err(AllocError);
-    };
-    numbers.insert(value, number)?;
-    Ok(number)
 }

@@ -1,8 +1,5 @@
 //! Values that nobody gives the register.
-ghost use Rattle.std.specs.Prelude.{◌≡◌, ◌↔◌, ◌∷◌, ◌++◌, [], true, if◌then◌else◌};
-ghost use Rattle.std.specs.Prelude.{IfOk, IfSome, IsTrue, List, ℕ, ℤ};
-ghost use Rattle.std.specs.BTreeSet.{contains};
-ghost use Rattle.std.specs.Ordering.{int_cmp, int_eq};
+ghost use Rattle.std.specs.Prelude.{◌≡◌, ◌↔◌, ◌∷◌, ◌++◌, [], IfOk, IfSome, IsTrue, List, ℕ};
 ghost use Rattle.history_model.specs.declared.operation.Operation.{Operation as AnOperation};
 ghost use Rattle.history_model.specs.Legal.{IsAtomic};
 ghost use Rattle.history_model.specs.Operations.{initial_write};
@@ -10,10 +7,10 @@ ghost use Rattle.register_search.specs.Timeline.{AreCalls};
 ghost use Rattle.register_search.specs.Unwritten.{HasGiven, IsFirstUnwritten, IsUnwritten};
 ghost use Rattle.register_search.specs.Unwritten.{number_asked, number_given, number_needed};
 
+use crate::value_numbers::ValueNumbers;
 use history_model::{Act, Operation};
 use history_text::Val;
 use std::alloc::{AllocError, Global};
-use std::collections::BTreeSet;
 
 /// The place of the first operation, by call, that needs a value which nobody gives the register: a completed
 /// read that gives it, or a cas that took place and found it. The initial write gives null.
@@ -32,10 +29,10 @@ pub fn first_unwritten(alloc: Global, ops: &[Operation]) -> Result<Option<usize>
 }
 
 /// The numbers that the operations give the register.
-fn given_numbers(alloc: Global, ops: &[Operation]) -> Result<BTreeSet<i64>, AllocError>
+fn given_numbers(alloc: Global, ops: &[Operation]) -> Result<ValueNumbers, AllocError>
     ensures { IfOk result (λ given. HasGiven ops.now given) }
 {
-    let mut given = BTreeSet::new(alloc);
+    let mut given = ValueNumbers::new(alloc, 0);
     for op in ops {
         add_given(&mut given, op)?;
     }
@@ -43,23 +40,17 @@ fn given_numbers(alloc: Global, ops: &[Operation]) -> Result<BTreeSet<i64>, Allo
 }
 
 /// Adds the number that one more operation gives the register.
-fn add_given(given: &mut BTreeSet<i64>, op: &Operation) -> Result<(), AllocError>
+fn add_given(given: &mut ValueNumbers, op: &Operation) -> Result<(), AllocError>
     ensures { IfOk result (λ _. (ops : List AnOperation) → HasGiven ops given.old
         → HasGiven (ops ++ (op.now ∷ [])) given.new) }
 {
     match number_of(op.act) {
-        Some(number) => add_number(given, number),
+        Some(number) => {
+            given.insert(number)?;
+            Ok(())
+        }
         None => Ok(()),
     }
-}
-
-/// Adds a number.
-fn add_number(given: &mut BTreeSet<i64>, number: i64) -> Result<(), AllocError>
-    ensures { IfOk result (λ _. (q : ℤ)
-        → contains int_cmp given.new q ≡ (if int_eq number q then true else contains int_cmp given.old q)) }
-{
-    given.insert(number)?;
-    Ok(())
 }
 
 /// The number that an act gives the register, if it gives one.
@@ -85,11 +76,11 @@ fn number_of(act: Act) -> Option<i64>
 }
 
 /// Whether the operation needs a number that isn't among the given ones.
-fn is_unwritten(op: &Operation, given: &BTreeSet<i64>) -> bool
+fn is_unwritten(op: &Operation, given: &ValueNumbers) -> bool
     ensures { (ops : List AnOperation) → HasGiven ops given.now → (IsTrue result ↔ IsUnwritten ops op.now) }
 {
     match needed(op) {
-        Some(number) => !given.contains(&number),
+        Some(number) => !given.contains(number),
         None => false,
     }
 }

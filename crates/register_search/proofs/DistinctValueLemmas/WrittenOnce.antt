@@ -3,8 +3,9 @@ use Rattle.std.proofs.Common.{◌≡◌, ℤ, cond, Bool, true, false, List, [],
 use Rattle.std.proofs.Common.{Result, Ok, Err, IfOk, IsTrue, inl, inr, sym, ap, ◌∙◌, ◌⊎◌}
 use Rattle.std.proofs.lemmas.Bool.{false≢true, cases_Bool}
 use Rattle.std.proofs.lemmas.Bool.Decides.{Decides-int_eq}
-use Rattle.std.specs.Ordering.{int_cmp, int_eq}
-use Rattle.std.specs.BTreeSet.{BTreeSet, contains}
+use Rattle.std.specs.Ordering.{int_eq}
+use Rattle.register_search.specs.declared.value_numbers.ValueNumbers.{ValueNumbers}
+use Rattle.register_search.specs.ValueNumbers.{has_number}
 use Rattle.history_text.specs.declared.event.Val.{Val}
 use Rattle.history_text.specs.declared.event.Val.TheVariants.{Null, Int}
 use Rattle.history_model.specs.Lists.{Before, In}
@@ -29,7 +30,7 @@ before-push x y (z ∷ zs) a h = elim h [
 ]
 
 -- one that writes nothing
-pub one-other : (ops : List Operation) (a : Operation) (s : BTreeSet ℤ)
+pub one-other : (ops : List Operation) (a : Operation) (s : ValueNumbers)
     → ((v : Val) → a.act ≡ Write v → ⊥) → HasWritten ops s → HasWritten (ops ++ a ∷ []) s
 one-other ops a s other h =
     let no : (b : Operation) (v : Val) → b ≡ a → b.act ≡ Write v → ⊥ =
@@ -55,9 +56,9 @@ written-number : (m n : ℤ) → Write (Int m) ≡ Write (Int n) → m ≡ n
 written-number m n e = cc (e)
 
 -- one that writes a new number
-pub one-write : (ops : List Operation) (a : Operation) (s t : BTreeSet ℤ) (m : ℤ) → a.act ≡ Write (Int m)
-    → contains int_cmp s m ≡ false
-    → ((q : ℤ) → contains int_cmp t q ≡ cond (int_eq m q) true (contains int_cmp s q))
+pub one-write : (ops : List Operation) (a : Operation) (s t : ValueNumbers) (m : ℤ) → a.act ≡ Write (Int m)
+    → has_number s m ≡ false
+    → ((q : ℤ) → has_number t q ≡ cond (int_eq m q) true (has_number s q))
     → HasWritten ops s → HasWritten (ops ++ a ∷ []) t
 one-write ops a s t m writes new adds h =
     let number : (b : Operation) (n : ℤ) → b ≡ a → b.act ≡ Write (Int n) → m ≡ n =
@@ -75,26 +76,26 @@ one-write ops a s t m writes new adds h =
           | inl there ↦ h.once.once b c n there e f
           | inr last ↦
               let same = number c n last.1 f in
-              absurd (false≢true (sym new ∙ (ap (contains int_cmp s) same ∙ h.has b n last.0 e)))
+              absurd (false≢true (sym new ∙ (ap (has_number s) same ∙ h.has b n last.0 e)))
         ];
       };
       has = λ b n i e. adds n ∙ elim (append-In b ops (a ∷ []) i) [
         | inl j ↦ elim (cases_Bool (int_eq m n)) [
-          | inl y ↦ ap (λ x. cond x true (contains int_cmp s n)) y
-          | inr y ↦ ap (λ x. cond x true (contains int_cmp s n)) y ∙ h.has b n j e
+          | inl y ↦ ap (λ x. cond x true (has_number s n)) y
+          | inr y ↦ ap (λ x. cond x true (has_number s n)) y ∙ h.has b n j e
         ]
         | inr j ↦ elim j [
           | inl same ↦
-              ap (λ x. cond x true (contains int_cmp s n)) ((Decides-int_eq m n).1 (number b n same e))
+              ap (λ x. cond x true (has_number s n)) ((Decides-int_eq m n).1 (number b n same e))
           | inr z ↦ absurd z
         ]
       ];
     }
 
 -- unless memory ran out or the number is there, it is added
-pub write-or-not : {E : Type 0} (result : Result Bool E) (s t : BTreeSet ℤ) (m : ℤ)
-    → IfOk result (λ is. IsTrue is → contains int_cmp s m ≡ false)
-    → IfOk result (λ _. (q : ℤ) → contains int_cmp t q ≡ cond (int_eq m q) true (contains int_cmp s q))
+pub write-or-not : {E : Type 0} (result : Result Bool E) (s t : ValueNumbers) (m : ℤ)
+    → IfOk result (λ is. IsTrue is → has_number s m ≡ false)
+    → IfOk result (λ _. (q : ℤ) → has_number t q ≡ cond (int_eq m q) true (has_number s q))
     → IfOk result (λ is. IsTrue is → (ops : List Operation) (a : Operation) → a.act ≡ Write (Int m)
     → HasWritten ops s → HasWritten (ops ++ a ∷ []) t)
 write-or-not (Ok is) s t m new adds = λ y ops a writes h. one-write ops a s t m writes (new y) adds h

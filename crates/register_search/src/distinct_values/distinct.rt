@@ -1,18 +1,15 @@
 //! Which registers zones can decide.
-ghost use Rattle.std.specs.Prelude.{◌≡◌, ◌∷◌, ◌++◌, [], if◌then◌else◌, ℕ, ℤ, List};
-ghost use Rattle.std.specs.Prelude.{slice_get, IfOk, IsTrue, Some, false, true};
-ghost use Rattle.std.specs.BTreeSet.{contains};
-ghost use Rattle.std.specs.Ordering.{int_cmp, int_eq};
+ghost use Rattle.std.specs.Prelude.{◌≡◌, ◌∷◌, ◌++◌, [], ℕ, List, slice_get, IfOk, IsTrue, Some, true};
 ghost use Rattle.history_model.specs.declared.act.Act.TheVariants.{Write};
 ghost use Rattle.history_model.specs.declared.operation.Operation.{Operation as AnOperation};
 ghost use Rattle.history_model.specs.Acts.{is_plain};
 ghost use Rattle.register_search.specs.DistinctValues.SomeOperations.{ArePlain};
 ghost use Rattle.register_search.specs.DistinctValues.WrittenOnce.{AreWrittenOnce, HasWritten};
 
+use crate::value_numbers::ValueNumbers;
 use history_model::{Act, Operation};
 use history_text::Val;
 use std::alloc::{AllocError, Global};
-use std::collections::BTreeSet;
 
 /// Whether the operations are reads and writes, and no value is written twice, nor null.
 pub(crate) fn has_distinct_values(alloc: Global, ops: &[Operation]) -> Result<bool, AllocError>
@@ -56,7 +53,7 @@ fn is_read_or_write(act: Act) -> bool
 fn are_written_once(alloc: Global, ops: &[Operation]) -> Result<bool, AllocError>
     ensures { IfOk result (λ is. IsTrue is → AreWrittenOnce ops.now) }
 {
-    let mut written = BTreeSet::new(alloc);
+    let mut written = ValueNumbers::new(alloc, 0);
     for op in ops {
         let is_new = add_written(&mut written, op)?;
         if !is_new {
@@ -67,7 +64,7 @@ fn are_written_once(alloc: Global, ops: &[Operation]) -> Result<bool, AllocError
 }
 
 /// Adds what one more operation writes; false if that is there, or null.
-fn add_written(written: &mut BTreeSet<i64>, op: &Operation) -> Result<bool, AllocError>
+fn add_written(written: &mut ValueNumbers, op: &Operation) -> Result<bool, AllocError>
     ensures { IfOk result (λ is. IsTrue is → (ops : List AnOperation) → HasWritten ops written.old
         → HasWritten (ops ++ (op.now ∷ [])) written.new) }
 {
@@ -81,23 +78,12 @@ fn add_written(written: &mut BTreeSet<i64>, op: &Operation) -> Result<bool, Allo
 }
 
 /// Adds a written value; false if it is there, or null.
-fn add_value(written: &mut BTreeSet<i64>, value: Val) -> Result<bool, AllocError>
+fn add_value(written: &mut ValueNumbers, value: Val) -> Result<bool, AllocError>
     ensures { IfOk result (λ is. IsTrue is → (ops : List AnOperation) (a : AnOperation) → a.act ≡ Write value
         → HasWritten ops written.old → HasWritten (ops ++ (a ∷ [])) written.new) }
 {
     match value {
-        Val::Int(number) => add_number(written, number),
+        Val::Int(number) => written.insert(number),
         Val::Null => Ok(false),
     }
-}
-
-/// Adds a number; whether it is new.
-fn add_number(written: &mut BTreeSet<i64>, number: i64) -> Result<bool, AllocError>
-    ensures new { IfOk result (λ is. IsTrue is → contains int_cmp written.old number ≡ false) }
-    ensures all { IfOk result (λ _. (q : ℤ)
-        → contains int_cmp written.new q
-        ≡ (if int_eq number q then true else contains int_cmp written.old q)) }
-{
-    let is_new = written.insert(number)?;
-    Ok(is_new)
 }

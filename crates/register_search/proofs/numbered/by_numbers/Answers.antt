@@ -1,10 +1,16 @@
-use Rattle.std.proofs.Common.{subst}
+use Rattle.std.proofs.Common.{rules, subst}
 use Rattle.std.specs.List.{AllZip}
 use Rattle.std.proofs.lemmas.List.{take_all}
 use Rattle.register_search.specs.ByNumbers.{IsByNumber, number_in}
 use Rattle.register_search.proofs.ByNumbers.{each-more}
-use Rattle.register_search.proofs.Numbers.{numbering}
+use Rattle.register_search.proofs.Numbers.{none-yet, numbering}
 use Rattle.register_search.proofs.numbered.by_numbers.Goals as goal
+
+pub loop-op-init : goal.loop-op-init
+loop-op-init c = record {
+  numbers = none-yet c.new-numbers.result c.new-numbers.ensures.none c.new-numbers.ensures.next;
+  each = search rules;
+}
 
 pub loop-op-preserved : goal.loop-op-preserved
 loop-op-preserved c =
