@@ -66,12 +66,11 @@ const ALL: u64 = 64;
 /// The stages if some changes have no reply: first those that are quick where they suffice, with few steps.
 /// An exact one comes before an eased one, since the reply that the latter names need not be the first
 /// hopeless one. The last is as wide as the bounds allow.
-const STAGES: [Stage; 13] = [
+const STAGES: [Stage; 12] = [
     stage!(DepthFirst, 1, 1, 32),
     stage!(Thriftiest, 8, MOST, 2),
+    stage!(Relay, 1, MOST, 8),
     stage!(Thriftiest, 32, MOST, 2),
-    stage!(Thrifty, 8, MOST, 1),
-    stage!(Thrifty, 32, MOST, 1),
     stage!(Exact, MOST, 256, 2),
     stage!(Eased, MOST, 4_096, 2),
     stage!(Relay, 5, MOST, 58),
