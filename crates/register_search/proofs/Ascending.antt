@@ -82,10 +82,10 @@ length-push : (ks : List ℤ) (v : ℤ) → length (ks ++ v ∷ []) ≡ length k
 length-push [] v = refl
 length-push (k ∷ ks) v = let h = length-push ks v in omega arith
 
-pub above-none : (v : ℤ) (n : ℕ) (es : List (ℤ × ℕ)) → None ≡ slice_get es (length es - 1)
+pub above-nothing : (v : ℤ) (n : ℕ) (es : List (ℤ × ℕ)) → None ≡ slice_get es (length es - 1)
     → IsStrictlySortedBy int_cmp (keys_of (es ++ (v, n) ∷ []))
-above-none v n [] h = sorted_from_all_adjacent int_cmp_total (v ∷ []) v (λ k l. absurd (omega arith))
-above-none v n (e ∷ es) h =
+above-nothing v n [] h = sorted_from_all_adjacent int_cmp_total (v ∷ []) v (λ k l. absurd (omega arith))
+above-nothing v n (e ∷ es) h =
     absurd (let z = h ∙ slice_get-get_or (e ∷ es) (length (e ∷ es) - 1) e (omega arith) in cc (z))
 
 pub above-last : (es : List (ℤ × ℕ)) (last : ℤ × ℕ) (v : ℤ) (n : ℕ) → IsStrictlySortedBy int_cmp (keys_of es)

@@ -21,7 +21,7 @@ struct Segment {
 
 /// Where an operation stands in its segment.
 #[derive(Clone, Copy, PartialEq, Eq)]
-pub(crate) enum Part {
+pub(crate) enum Spot {
     /// It is the change that the segment begins with.
     First,
     /// It leaves the value as it is.
@@ -32,7 +32,7 @@ pub(crate) enum Part {
 
 /// What the segments near the call of an operation say of where it may stand.
 enum Near {
-    At(usize, Part),
+    At(usize, Spot),
     Nowhere,
     /// Nowhere near; its life meets more segments.
     Beyond,
@@ -101,7 +101,7 @@ impl Segments {
         act: Act,
         from: usize,
         reply: usize,
-    ) -> Result<Option<(usize, Part)>, AllocError> {
+    ) -> Result<Option<(usize, Spot)>, AllocError> {
         match near_place(&self.all, act, from, reply) {
             Near::At(segment, part) => Ok(Some((segment, part))),
             Near::Nowhere => Ok(None),
@@ -116,7 +116,7 @@ impl Segments {
         act: Act,
         from: usize,
         reply: usize,
-    ) -> Result<Option<(usize, Part)>, AllocError> {
+    ) -> Result<Option<(usize, Spot)>, AllocError> {
         if self.finder.is_none() {
             self.finder = Some(finder_of(alloc, &self.all)?);
         }
@@ -166,10 +166,10 @@ fn near_place(segments: &[Segment], act: Act, from: usize, reply: usize) -> Near
             return Near::Nowhere;
         }
         if leaves(act, segment.value) {
-            return Near::At(place, Part::Inside);
+            return Near::At(place, Spot::Inside);
         }
         if is_write(act) && is_written_by(segments, place + 1, reply) {
-            return Near::At(place, Part::Last);
+            return Near::At(place, Spot::Last);
         }
     }
     if end == segments.len() {
@@ -273,7 +273,7 @@ impl Finder {
         act: Act,
         from: usize,
         reply: usize,
-    ) -> Option<(usize, Part)> {
+    ) -> Option<(usize, Spot)> {
         let inside = self
             .inside(segments, act, from)
             .filter(|place| begins_by(segments, *place, reply));
@@ -292,11 +292,11 @@ fn begins_by(segments: &[Segment], segment: usize, place: usize) -> bool {
 }
 
 /// The first of two segments, with the part in which an operation may stand there.
-fn first_of(inside: Option<usize>, at_end: Option<usize>) -> Option<(usize, Part)> {
+fn first_of(inside: Option<usize>, at_end: Option<usize>) -> Option<(usize, Spot)> {
     match (inside, at_end) {
-        (Some(inside), Some(end)) if end < inside => Some((end, Part::Last)),
-        (Some(inside), _) => Some((inside, Part::Inside)),
-        (None, Some(end)) => Some((end, Part::Last)),
+        (Some(inside), Some(end)) if end < inside => Some((end, Spot::Last)),
+        (Some(inside), _) => Some((inside, Spot::Inside)),
+        (None, Some(end)) => Some((end, Spot::Last)),
         (None, None) => None,
     }
 }

@@ -1,6 +1,6 @@
 use Rattle.std.proofs.Common.{rules, int_lt, IsTrue, FitsSigned, w64, subst, to_z, of_z}
 use Rattle.std.proofs.Math.Facts.{to_z-of_z}
-use Rattle.register_search.proofs.Ascending.{less-than, above-none, above-last}
+use Rattle.register_search.proofs.Ascending.{less-than, above-nothing, above-last}
 use Rattle.register_search.proofs.value_numbers.is_above.Goals as goal
 
 pub returns-in-Some : goal.returns-in-Some
@@ -13,4 +13,4 @@ returns-in-Some c =
     (subst (λ m. IsTrue (int_lt (to_z w64 (of_z w64 last.0)) m)) (to_z-of_z c.ranges.value) t)))
 
 pub returns-in-None : goal.returns-in-None
-returns-in-None c = λ _ n. above-none c.args.value n c.args.ascending.now c.in-None.ensures.value
+returns-in-None c = λ _ n. above-nothing c.args.value n c.args.ascending.now c.in-None.ensures.value
