@@ -95,7 +95,8 @@ module _ (events : List AnyEvent) (e : AnyEvent) (next : List (Option ℕ)) (old
       go : (b : Bool) → eqb i n ≡ b → ((i ≡ n) × (x ≡ e)) ⊎ ((i < n) × (slice_get events i ≡ Some x))
       go true d =
           let here : i ≡ n = eqb-true i n d in
-          let got : Some e ≡ Some x = sym (slice_get-push events e) ∙ (ap (slice_get longer) (sym here) ∙ at) in
+          let got : Some e ≡ Some x =
+          sym (slice_get-push events e) ∙ (ap (slice_get longer) (sym here) ∙ at) in
           let same : x ≡ e = cc (got) in
           inl (here, same)
       go false d =
@@ -196,9 +197,10 @@ module _ (events : List AnyEvent) (e : AnyEvent) (next : List (Option ℕ)) (old
       → new x.process ≡ Some i
   unlinked-now i x at none = elim (place-of i x at) [
     | inl h ↦
+        let own : e.process ≡ x.process = ap (λ (g : AnyEvent). g.process) (sym h.1) in
         at-new x.process
-        ∙ (ap (λ b. cond b (Some n) (old x.process)) (eq-eqb e.process x.process (ap (λ (g : AnyEvent). g.process)
-        (sym h.1))) ∙ ap Some (sym h.0))
+        ∙ (ap (λ b. cond b (Some n) (old x.process)) (eq-eqb e.process x.process own)
+        ∙ ap Some (sym h.0))
     | inr h ↦
         let other : old e.process ≡ Some i → ⊥ =
         λ before. let got : Some n ≡ None = sym (link-before i before) ∙ none in cc (got) in
@@ -220,7 +222,12 @@ module _ (events : List AnyEvent) (e : AnyEvent) (next : List (Option ℕ)) (old
         ∙ ap (option_and_then (slice_get longer)) (sym (at-new p)));
     within = λ p i h. inside p i (eqb e.process p) (old p) refl (sym (at-new p) ∙ h);
     linked = record {
-      count = omega (arith, count-linked next n k.linked.count (old e.process), length-append events (e ∷ []));
+      count =
+          omega (
+            arith,
+            count-linked next n k.linked.count (old e.process),
+            length-append events (e ∷ []),
+          );
       each = linked-now;
     };
     below = below-now;

@@ -248,7 +248,8 @@ names-step events e = go (called_by e.kind) refl
     go None d = names-other events e d
     go (Some call) d = names-call events e call d
 
-longer-with : (names : List Name) (o : Option Called) → (more : List Name) × (with_called names o ≡ names ++ more)
+longer-with : (names : List Name) (o : Option Called)
+    → (more : List Name) × (with_called names o ≡ names ++ more)
 longer-with names None = ([], sym (append-nil names))
 longer-with names (Some call) =
     go (nat_lt (position_or_len (bytes_eq call.register) names) (length names))

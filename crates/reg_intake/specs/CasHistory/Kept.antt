@@ -26,8 +26,8 @@ pub record AreLinked (events : List AnyEvent) (next : List (Option ℕ)) : Type 
       → next_of (any_calls names) e.process (i + 1 + 2) (drop (i + 1) events) ≡ event_at events
       (link_at next i)
 
--- The place of each process's last event, which alone is linked to none; the events are no more than a history
--- may have.
+-- The place of each process's last event, which alone is linked to none; the events are no more than a
+-- history may have.
 pub record IsKept (events : List AnyEvent) (next : List (Option ℕ)) (place : ℕ → Option ℕ) : Type 0 where
   pub few : length events ≤ MAX_EVENTS
   pub last : (p : ℕ) → last_event any_form events p ≡ option_and_then (slice_get events) (place p)

@@ -1,5 +1,6 @@
 //! The operations of the calls, each by the next event of its process.
-ghost use Rattle.std.specs.Prelude.{◌≡◌, ◌≤◌, ℕ, List, Some, length, map, IfOk, IfSome, option_map, unwrap_or};
+ghost use Rattle.std.specs.Prelude.{◌≡◌, ◌≤◌, ℕ, List, Some, length, map, IfOk, IfSome, option_map};
+ghost use Rattle.std.specs.Prelude.{unwrap_or};
 ghost use Rattle.history_model.specs.Calls as all;
 ghost use Rattle.reg_intake.specs.CasHistory.Events.{called_by};
 ghost use Rattle.reg_intake.specs.CasHistory.History as defined;
@@ -31,7 +32,8 @@ pub(crate) fn operation_at(
     event: &AnyEvent,
     next: Option<(u32, &AnyEvent)>,
 ) -> Option<Operation>
-    ensures operation { (names : List (List ℕ)) → register ≡ defined.number_of names (called_by event.now.kind)
+    ensures operation { (names : List (List ℕ))
+        → register ≡ defined.number_of names (called_by event.now.kind)
         → result ≡ begun_at (defined.any_calls names) after_all time event.now
         (option_map (λ next. (next.0, next.1.now)) next.entry) }
     ensures register { IfSome result (λ operation. operation.register ≡ register) }

@@ -4,7 +4,8 @@ ghost use Rattle.std.specs.Prelude.{option_map};
 ghost use Rattle.std.specs.List.{position_or_len};
 ghost use Rattle.reg_intake.specs.CasHistory.Events.{called_by};
 ghost use Rattle.reg_intake.specs.CasHistory.History.{any_calls, number_of};
-ghost use Rattle.reg_intake.specs.CasHistory.Kept.{AreLinked, names_with, operation_at as begun_at, with_name};
+ghost use Rattle.reg_intake.specs.CasHistory.Kept.{AreLinked, names_with, operation_at as begun_at};
+ghost use Rattle.reg_intake.specs.CasHistory.Kept.{with_name};
 ghost use Rattle.reg_intake.specs.CasHistory.Listed.{Adds, IsHistoryBy, listed};
 
 use crate::cas_history::calls::{next_event, operation_at};

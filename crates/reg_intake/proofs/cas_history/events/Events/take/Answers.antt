@@ -30,4 +30,5 @@ invariant_of-self-in-Ok c =
     ∙ ap (linked_from (c.self.inside.next.items ++ None ∷ []) (old event.process)) place)) in
     subst (λ events. IsKept events c.link.new.next.items new) (sym c.in_ok-push_unlinked.ensures.events)
     (subst (λ next. IsKept (events ++ event ∷ []) next new) (sym linked)
-    (kept-push events event c.self.inside.next.items old new c.self.invariant (omega (arith, below, place)) is))
+    (kept-push events event c.self.inside.next.items old new c.self.invariant
+    (omega (arith, below, place)) is))

@@ -1,5 +1,6 @@
 -- A new name comes last.
-use Rattle.std.proofs.Common.{◌≡◌, ◌++◌, ◌∷◌, [], ℕ, List, cond, length, bytes_eq, Some, sym, ap, subst, ◌∙◌, arith}
+use Rattle.std.proofs.Common.{◌≡◌, ◌++◌, ◌∷◌, [], ℕ, List, cond, length, bytes_eq, Some, sym, ap}
+use Rattle.std.proofs.Common.{subst, ◌∙◌, arith}
 use Rattle.std.specs.BTreeMap.{get_by_text}
 use Rattle.std.specs.String.{string_bytes}
 use Rattle.std.proofs.lemmas.Map.Text.{btree_map_updates_text}
@@ -16,7 +17,8 @@ invariant_of-self-in-Ok c =
     let new = λ (name : List ℕ). get_by_text c.insert.new.self name in
     let text = c.as_str-text.ensures.text in
     let last =
-    subst (λ names. position_or_len (bytes_eq name) names ≡ length names) (sym c.self.view_is) c.requires.new in
+    subst (λ names. position_or_len (bytes_eq name) names ≡ length names) (sym c.self.view_is)
+    c.requires.new in
     let absent = no-number names old c.self.invariant name last in
     let place : c.len-count.result ≡ length names =
     omega (arith, c.len-count.ensures, c.self.inside.names.ok) in

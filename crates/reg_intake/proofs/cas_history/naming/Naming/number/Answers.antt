@@ -38,8 +38,8 @@ returns-in-Some-clause-names c =
     ap number (sym c.as_str.ensures.text) ∙ sym c.in-Some.ensures.value in
     let known =
     place-known c.self.inside.names.items number c.self.invariant name c.in-Some.number.now found in
-    let within : position_or_len (bytes_eq name) c.self.inside.names.items < length c.self.inside.names.items =
-    omega (arith, known.0, known.1) in
+    let inside = c.self.inside.names.items in
+    let within : position_or_len (bytes_eq name) inside < length inside = omega (arith, known.0, known.1) in
     sym (with-known c.args.self.now name
     (subst (λ names. position_or_len (bytes_eq name) names < length names) c.self.view_is within))
 

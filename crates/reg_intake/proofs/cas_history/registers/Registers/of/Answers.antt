@@ -1,5 +1,6 @@
 -- One event more: the name of its register, and its operation, if it begins one.
-use Rattle.std.proofs.Common.{◌≡◌, ◌+◌, ◌<◌, ◌++◌, ◌∷◌, [], ℕ, Bor, suc, length, take, option_map, refl, sym, ap}
+use Rattle.std.proofs.Common.{◌≡◌, ◌+◌, ◌<◌, ◌++◌, ◌∷◌, [], ℕ, Bor, suc, length, take, option_map, refl}
+use Rattle.std.proofs.Common.{sym, ap}
 use Rattle.std.proofs.Common.{◌∙◌, arith}
 use Rattle.std.proofs.lemmas.Option.{slice_get_read}
 use Rattle.history_text.specs.declared.event.AnyEvent.{AnyEvent}
@@ -45,7 +46,8 @@ loop-place-preserved c =
     operation_at (any_calls all) n (i + 2) event
     (option_map (λ (next : ℕ × Bor AnyEvent). (next.0, next.1.now)) c.next_event-next.result) in
     let step =
-    calls-step (any_calls all) n events i event at o (ap (operation_at (any_calls all) n (i + 2) event) linked) in
+    calls-step (any_calls all) n events i event at o
+    (ap (operation_at (any_calls all) n (i + 2) event) linked) in
     record {
       names = names;
       few =
