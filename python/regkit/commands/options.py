@@ -26,7 +26,7 @@ def whole(least: int, most: int) -> Callable[[str], int]:
 def add_bounds(parser: argparse.ArgumentParser) -> None:
     """The bounds of a search, which are handed on to regsearch."""
     parser.add_argument("--steps", metavar="N", type=whole(1, MAX_STEPS),
-                        help=f"how often a search may look at an open call (default {DEFAULT_STEPS})")
+                        help=f"how many steps a search may take (default {DEFAULT_STEPS})")
     parser.add_argument("--configurations", metavar="N", type=whole(1, MAX_CONFIGURATIONS),
                         help="how many configurations a search may hold at once "
                              f"(default {DEFAULT_CONFIGURATIONS})")
