@@ -244,7 +244,7 @@ LIBRARY_TREE := bin/library/libregcheck-$(VERSION)-$(LINUX)-linux
 dist-library:
 	rm -rf bin/library
 	$(MAKE) --no-print-directory -s install-library DESTDIR=$(LIBRARY_TREE) PREFIX=
-	cp --parents $(PACKAGES) docs/embedding.md docs/format.md $(LIBRARY_TREE)
+	cp --parents $(PACKAGES) docs/embedding.md docs/format.md docs/levels.md $(LIBRARY_TREE)
 	ln $(LIBRARY_TREE)/include/regcheck.h $(LIBRARY_TREE)/lib/libregcheck.a $(LIBRARY_TREE)/go/regcheck
 	CC=$(CROSS_CC) packaging/make_bill $(LIBRARY)/libregcheck.a $(LIBRARY)/$(SONAME) \
 		> $(LIBRARY_TREE)/libregcheck.spdx.json
