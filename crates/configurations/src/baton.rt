@@ -3,8 +3,8 @@ ghost use Rattle.std.specs.Prelude.{◌<◌, ◌*◌, ◌^◌};
 ghost use Rattle.configurations.specs.Tables.{IsTable};
 
 use crate::config::{Config, Configs};
+use crate::needs::Sight;
 use crate::op::{NEVER, Op, misses, writes};
-use crate::outlook::Sight;
 use crate::reply::Lists;
 use crate::runner::{Runner, Stand};
 use crate::table::{NO_SLOT, Table};
@@ -131,7 +131,7 @@ pub(crate) fn handed_over<const W: usize>(
     };
     Ok(Baton {
         place: 0,
-        sight: lists.outlook.sight(alloc)?,
+        sight: lists.outlook.sight().copied(alloc)?,
         calls: open.calls,
         reserve: open.reserve,
         legs_on,

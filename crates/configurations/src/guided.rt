@@ -18,8 +18,8 @@ use slot_sets::Slots;
 use std::alloc::{AllocError, Global};
 use std::mem;
 
-/// What it costs if a value that is needed rests on a cas that may be in vain.
-const DOUBT: u32 = 16;
+/// What it costs if a value that is needed rests on a call that never replies.
+const DOUBT: u32 = 12;
 
 /// The step over the reply of the call of a slot.
 pub(crate) fn go_over<const W: usize>(
@@ -34,16 +34,33 @@ pub(crate) fn go_over<const W: usize>(
     ensures { IfOk result (λ whole.
         IsOver whole table.old now.old (AReply (call_at table.old reply)) table.new now.new) }
 {
-    lists.next.clear();
-    lists.work.clear();
-    put_down_best(table, now, lists, reply)?;
-    pass(table, lists, true, reply)?;
+    lists.outlook.is_sparing = true;
+    try_over(table, now, lists, reply)?;
     if lists.next.list.is_empty() {
-        pass(table, lists, false, reply)?;
+        lists.outlook.is_sparing = false;
+        try_over(table, now, lists, reply)?;
     }
     mem::swap(now, &mut lists.next);
     table.release(reply);
     Ok(false)
+}
+
+/// Puts into `next` what comes of configurations at the reply of the call of a slot.
+fn try_over<const W: usize>(
+    table: &Table<W>,
+    now: &Configs<W>,
+    lists: &mut Lists<W>,
+    reply: u32,
+) -> Result<(), Stop>
+    requires table { IsTable table.now }
+    requires held { AreHeld (has table.now.used) now.now }
+    requires reply { has table.now.used reply ≡ true }
+    ensures { IfOk result (λ _. AreApart table.now reply lists.new.work lists.new.next) }
+{
+    lists.next.clear();
+    lists.work.clear();
+    put_down_best(table, now, lists, reply)?;
+    pass(table, lists, reply)
 }
 
 /// Puts all down, the last one first, or the best if the beam holds fewer: those that others stand for don't
@@ -116,10 +133,32 @@ fn burden<const W: usize>(config: &Config<W>) -> u32 {
     config.cost.saturating_add(config.owed.count())
 }
 
+/// A configuration goes on, unless no order is left for it.
+#[inline(always)]
+fn set_down<const W: usize>(
+    table: &Table<W>,
+    lists: &mut Lists<W>,
+    config: &Config<W>,
+    taken: Option<u32>,
+    reply: u32,
+) -> Result<(), Stop>
+    requires table { IsTable table.now }
+    requires held { IsHeld (has table.now.used) config.now }
+    requires reply { has table.now.used reply ≡ true }
+    requires apart { AreApart table.now reply lists.old.work lists.old.next }
+    ensures { IfOk result (λ _. AreApart table.now reply lists.new.work lists.new.next) }
+{
+    if lists.outlook.is_doomed(table, config, &mut lists.spent)? {
+        Ok(())
+    } else {
+        go_on(table, lists, config, taken, reply)
+    }
+}
+
 /// A configuration goes on as by `put_down`. One in which the call that replies needn't take effect
 /// isn't left without a value that is needed.
 #[inline(always)]
-fn set_down<const W: usize>(
+fn go_on<const W: usize>(
     table: &Table<W>,
     lists: &mut Lists<W>,
     config: &Config<W>,
@@ -264,7 +303,6 @@ fn try_all<const W: usize>(
     table: &Table<W>,
     lists: &mut Lists<W>,
     config: &Config<W>,
-    sparing: Option<u32>,
     reply: u32,
 ) -> Result<(), Stop>
     requires table { IsTable table.now }
@@ -273,48 +311,41 @@ fn try_all<const W: usize>(
     requires apart { AreApart table.now reply lists.old.work lists.old.next }
     ensures { IfOk result (λ _. AreApart table.now reply lists.new.work lists.new.next) }
 {
-    let spared = spared(table, &lists.outlook, &mut lists.spent, config, sparing)?;
+    let spared = spared(table, &lists.outlook, &mut lists.spent, config, reply)?;
     let slots = fitting(table, config, &spared);
     try_each(table, lists, config, &slots, reply)
 }
 
-/// Goes over `work` until enough are left; at first sparingly, so that calls that never reply take effect
-/// only if it is likely that they explain the reply.
-fn pass<const W: usize>(
-    table: &Table<W>,
-    lists: &mut Lists<W>,
-    is_sparing: bool,
-    reply: u32,
-) -> Result<(), Stop>
+/// Goes over `work` until enough are left.
+fn pass<const W: usize>(table: &Table<W>, lists: &mut Lists<W>, reply: u32) -> Result<(), Stop>
     requires table { IsTable table.now }
     requires reply { has table.now.used reply ≡ true }
     requires apart { AreApart table.now reply lists.old.work lists.old.next }
     ensures { IfOk result (λ _. AreApart table.now reply lists.new.work lists.new.next) }
 {
-    let sparing = if is_sparing { Some(reply) } else { None };
     for at in 0..lists.spent.most().saturating_add(1) {
         if at >= lists.work.list.len() || lists.spent.is_enough(at, lists.next.list.len()) {
             break;
         }
         let config = lists.work.list[at];
-        try_all(table, lists, &config, sparing, reply)?;
+        try_all(table, lists, &config, reply)?;
     }
     Ok(())
 }
 
-/// The calls that never reply, but for those that may take effect at once; none if there is no reply.
+/// The calls that never reply, but for those that may take effect at once; none if they aren't spared.
 fn spared<const W: usize>(
     table: &Table<W>,
     outlook: &Outlook<W>,
     spent: &mut Work,
     config: &Config<W>,
-    reply: Option<u32>,
+    reply: u32,
 ) -> Result<Slots<W>, Stop>
     requires table { IsTable table.now }
 {
-    let Some(reply) = reply else {
+    if !outlook.is_sparing {
         return Ok(Slots::none());
-    };
+    }
     match spent.thrift() {
         Thrift::Most => return Ok(table.unanswered),
         Thrift::Much => return Ok(table.unanswered.minus(&table.alike(reply))),

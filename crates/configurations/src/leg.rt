@@ -10,8 +10,9 @@ use crate::bounds::Bound;
 use crate::config::{Config, Configs, admit};
 use crate::forward::{takes_slot, words_for};
 use crate::moment::Moment;
+use crate::needs::Needs;
 use crate::op::Op;
-use crate::outlook::{Needs, Outlook};
+use crate::outlook::Outlook;
 use crate::reply::Lists;
 use crate::run::{forget_moves, step_over};
 use crate::runner::{Runner, Stand};
@@ -111,7 +112,7 @@ fn leg<const W: usize>(
         work: Configs::new(alloc, values)?,
         next: Configs::new(alloc, values)?,
         spent,
-        outlook: Outlook::over(alloc, needs, &baton.sight)?,
+        outlook: Outlook::over(alloc, needs, baton.sight.copied(alloc)?)?,
     };
     let ended = run_leg(&mut table, &mut lists, baton, events, end);
     let track = Track {

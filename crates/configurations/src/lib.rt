@@ -2,8 +2,8 @@
 //!
 //! What the floor above may rely on: if [`go_forward`] says that it's hopeless after a reply, the
 //! events up to that one can't be explained: whatever order the calls take effect in, some reply would
-//! say something else. The changes that it names besides promise nothing; an order that is made of
-//! them is to be checked. It stops at a bound.
+//! say something else. It also names changes, of which it promises nothing: an order made of them has
+//! to be checked. It stops at a bound.
 //!
 //! A configuration is the value of the register and the open calls that have not taken effect; a set of them
 //! goes forward over the events (Lowe, Testing for linearizability, 2017). Operations and values are numbers,
@@ -14,9 +14,9 @@
 //! `is_of_use` with `freeing`, `is_led` with `has_elder`, and the looks in `offspring` and `add_call`.
 //!
 //! Read it in this order: `op` and `moment`; `bounds`, `reached` and `work`; `table`, the open calls;
-//! `config`; `call` and `reply`, one event; `outlook` and `guided`, where a yes alone counts; `run`, all of
-//! them; `eased`, `depth_first` (with `links` and `tried`) and `relay` (with `runner`, `baton` and `leg`),
-//! other ways to go; `stages` and `forward`.
+//! `config`; `call` and `reply`, one event; `needs`, `outlook` and `guided`, whose yes alone counts; `run`,
+//! all of them; `eased`, `depth_first` (with `links` and `tried`) and `relay` (with `runner`, `baton` and
+//! `leg`), other ways to go; `stages` and `forward`.
 #![tactic(auto)]
 
 mod baton;
@@ -30,6 +30,7 @@ mod guided;
 mod leg;
 mod links;
 mod moment;
+mod needs;
 mod op;
 mod outlook;
 mod reached;

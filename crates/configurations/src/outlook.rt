@@ -1,11 +1,12 @@
-//! Which values the operations to come need. A stage whose yes alone counts lets go of configurations that
-//! can't give them; nothing is proved of that but that it is safe.
+//! Which values a configuration can still have where they are needed. A stage whose yes alone counts lets go
+//! of configurations that can't; nothing is proved of that but that it is safe.
 ghost use Rattle.std.specs.Prelude.{◌<◌, ◌*◌, ◌^◌};
 ghost use Rattle.configurations.specs.Tables.{IsTable};
 
 use crate::config::Config;
 use crate::moment::Moment;
-use crate::op::{NEVER, Op, looks, misses, writes};
+use crate::needs::{Needs, Sight};
+use crate::op::{Op, looks};
 use crate::table::Table;
 use crate::work::{Stop, Work};
 use slot_sets::Slots;
@@ -14,65 +15,24 @@ use std::alloc::{AllocError, Global};
 /// How many steps it spends to look at an open call that may need a value.
 pub(crate) const STEPS_PER_FINDER: u64 = 2;
 
-/// What calls ask for, by value and by number. A value is needed if a read or a cas that replies finds it,
-/// and no call that gives it comes before that reply.
+/// What calls ask for, and which of the open ones give it.
 #[derive(Drop)]
 pub(crate) struct Outlook<const W: usize> {
+    /// Whether calls that never reply are spared: they take effect only if it is likely that they explain a
+    /// reply, and no value is kept for a call to come in the hope of a cas among them.
+    pub is_sparing: bool,
     /// By value, the slots of the open changes that give it.
     givers: Vec<Slots<W>>,
-    /// By operation, how many calls there are up to the last one before its reply that gives what it finds.
-    given_by: Vec<usize>,
-    /// By change, how many of the calls after it need the value that it gives.
-    need: Vec<u32>,
-    /// By value, how many calls to come need it, and how many calls there are up to the last that gave it.
-    needed: Vec<u32>,
-    given: Vec<usize>,
-    /// How many calls there have been.
-    called: usize,
-}
-
-/// What is known of all calls.
-#[derive(Drop)]
-pub(crate) struct Needs {
-    given_by: Vec<usize>,
-    need: Vec<u32>,
-}
-
-/// What is known of the calls so far.
-#[derive(Drop)]
-pub(crate) struct Sight {
-    needed: Vec<u32>,
-    given: Vec<usize>,
-    called: usize,
-}
-
-impl Needs {
-    /// What is known of all calls, and of none so far.
-    pub(crate) fn new(
-        alloc: Global,
-        ops: &[Op],
-        events: &[Moment],
-        values: usize,
-    ) -> Result<(Self, Sight), AllocError> {
-        let outlook = Outlook::<1>::new(alloc, ops, events, values)?;
-        let sight = outlook.sight(alloc)?;
-        Ok((outlook.into_needs(), sight))
-    }
-}
-
-impl Sight {
-    /// A number above all values.
-    pub(crate) fn values(&self) -> usize {
-        self.needed.len()
-    }
+    needs: Needs,
+    sight: Sight,
 }
 
 /// Whether a configuration can have a value that is needed.
 #[derive(Clone, Copy, PartialEq, Eq)]
 pub(crate) enum Supply {
-    /// It has it, a call that is open can give it, or it isn't needed.
+    /// It has it, a call that is open and replies can give it, or it isn't needed.
     Enough,
-    /// Only a cas that never replies can give it.
+    /// Only a call that never replies can give it.
     Doubtful,
     /// No call can.
     Missing,
@@ -81,13 +41,12 @@ pub(crate) enum Supply {
 impl<const W: usize> Outlook<W> {
     /// Nothing is known, and nothing asked for.
     pub(crate) fn none(alloc: Global) -> Self {
+        let (needs, sight) = Needs::none(alloc);
         Outlook {
+            is_sparing: false,
             givers: Vec::new(alloc),
-            given_by: Vec::new(alloc),
-            need: Vec::new(alloc),
-            needed: Vec::new(alloc),
-            given: Vec::new(alloc),
-            called: 0,
+            needs,
+            sight,
         }
     }
 
@@ -100,48 +59,30 @@ impl<const W: usize> Outlook<W> {
     ) -> Result<Self, AllocError>
         requires room { 64 * W < 2 ^ 32 }
     {
-        let given_by = last_givers(alloc, ops, events, values)?;
-        let mut outlook = Outlook {
-            givers: no_slots(alloc, values)?,
-            need: vec![in alloc; 0; ops.len()]?,
-            needed: vec![in alloc; 0; values]?,
-            given: vec![in alloc; 0; values]?,
-            called: 0,
-            given_by,
-        };
-        outlook.note_needs(ops);
-        Ok(outlook)
+        let (needs, sight) = Needs::new(alloc, ops, events, values)?;
+        Self::over(alloc, needs, sight)
     }
 
     /// After some calls, none of which is open yet.
-    pub(crate) fn over(alloc: Global, needs: Needs, sight: &Sight) -> Result<Self, AllocError>
+    pub(crate) fn over(alloc: Global, needs: Needs, sight: Sight) -> Result<Self, AllocError>
         requires room { 64 * W < 2 ^ 32 }
     {
         Ok(Outlook {
+            is_sparing: false,
             givers: no_slots(alloc, sight.values())?,
-            given_by: needs.given_by,
-            need: needs.need,
-            needed: Vec::from_slice(alloc, &sight.needed)?,
-            given: Vec::from_slice(alloc, &sight.given)?,
-            called: sight.called,
+            needs,
+            sight,
         })
     }
 
     /// What is known of the calls so far.
-    pub(crate) fn sight(&self, alloc: Global) -> Result<Sight, AllocError> {
-        Ok(Sight {
-            needed: Vec::from_slice(alloc, &self.needed)?,
-            given: Vec::from_slice(alloc, &self.given)?,
-            called: self.called,
-        })
+    pub(crate) fn sight(&self) -> &Sight {
+        &self.sight
     }
 
     /// What is known of all calls.
     pub(crate) fn into_needs(self) -> Needs {
-        Needs {
-            given_by: self.given_by,
-            need: self.need,
-        }
+        self.needs
     }
 
     /// A call is open at a slot.
@@ -156,53 +97,13 @@ impl<const W: usize> Outlook<W> {
         }
     }
 
-    /// Counts, for each change, the calls after it that need its value.
-    fn note_needs(&mut self, ops: &[Op]) {
-        for (number, op) in ops.iter().enumerate() {
-            if finds(op) {
-                match self.given_by_of(number) {
-                    0 => add(&mut self.needed, op.from as usize),
-                    last if last <= number => add(&mut self.need, last - 1),
-                    _ => {}
-                }
-            }
-        }
-    }
-
-    /// How many calls there are up to the last one that gives what an operation finds.
-    fn given_by_of(&self, number: usize) -> usize {
-        match self.given_by.get(number) {
-            Some(last) => *last,
-            None => usize::MAX,
-        }
-    }
-
     /// An operation is called, and has got a slot or needs none.
     pub(crate) fn call(&mut self, op: &Op, number: u32, slot: Option<u32>)
         requires room { 64 * W < 2 ^ 32 }
     {
-        let number = number as usize;
-        self.called = number.saturating_add(1);
-        if finds(op) && self.given_by_of(number) == get(&self.given, op.from) {
-            if let Some(count) = self.needed.get_mut(op.from as usize) {
-                *count = count.saturating_sub(1);
-            }
-        }
-        if looks(op) {
-            return;
-        }
-        if let Some(last) = self.given.get_mut(op.to as usize) {
-            *last = self.called;
-        }
-        let need = match self.need.get(number) {
-            Some(need) => *need,
-            None => 0,
-        };
-        if let Some(count) = self.needed.get_mut(op.to as usize) {
-            *count = need;
-        }
-        if let (Some(slot), Some(givers)) = (slot, self.givers.get_mut(op.to as usize)) {
-            givers.insert(slot);
+        self.sight.call(&self.needs, op, number);
+        if let Some(slot) = slot {
+            self.open(op, slot);
         }
     }
 
@@ -241,10 +142,9 @@ impl<const W: usize> Outlook<W> {
         }
         let open = config.owed.union(&config.free);
         let givers = self.givers(value).common(&open);
-        let doubtful = table.unanswered.minus(&table.writes);
-        if !givers.is_within(&doubtful) || !self.needs(table, config, value, spent)? {
+        if !givers.is_within(&table.unanswered) || !self.is_needed(table, config, value, spent)? {
             Ok(Supply::Enough)
-        } else if givers.meets(&doubtful) {
+        } else if givers.meets(&table.unanswered) {
             Ok(Supply::Doubtful)
         } else {
             Ok(Supply::Missing)
@@ -252,7 +152,7 @@ impl<const W: usize> Outlook<W> {
     }
 
     /// Whether a value is needed: by a call to come, or by one that is open in the configuration.
-    fn needs(
+    fn is_needed(
         &self,
         table: &Table<W>,
         config: &Config<W>,
@@ -261,7 +161,7 @@ impl<const W: usize> Outlook<W> {
     ) -> Result<bool, Stop>
         requires { IsTable table.now }
     {
-        if get_count(&self.needed, value) > 0 {
+        if self.sight.needed_until(value).is_some() {
             return Ok(true);
         }
         let open = finders(table, config).common(&table.asked(value));
@@ -271,85 +171,60 @@ impl<const W: usize> Outlook<W> {
                 break
             };
             spent.spend(STEPS_PER_FINDER)?;
-            if self.given_by_of(table.call(slot) as usize) <= self.called {
+            if self.sight.is_given(&self.needs, table.call(slot)) {
                 return Ok(true);
             }
             at = slot + 1;
         }
         Ok(false)
     }
+
+    /// Whether a configuration has to keep its value for a call to come, while another call must take effect
+    /// before that and can't. No order is left for it then.
+    pub(crate) fn is_doomed(
+        &self,
+        table: &Table<W>,
+        config: &Config<W>,
+        spent: &mut Work,
+    ) -> Result<bool, Stop>
+        requires { IsTable table.now }
+    {
+        let Some(until) = self.sight.needed_until(config.value) else {
+            return Ok(false);
+        };
+        if self.can_leave(table, config) {
+            return Ok(false);
+        }
+        spent.spend(W as u64)?;
+        let mut at = 0;
+        for _ in 0..config.owed.count() {
+            let Some(slot) = config.owed.first_from(at) else {
+                break
+            };
+            spent.spend(STEPS_PER_FINDER)?;
+            if self.needs.reply(table.call(slot)) < until {
+                return Ok(true);
+            }
+            at = slot + 1;
+        }
+        Ok(false)
+    }
+
+    /// Whether an open call can give the value of a configuration again.
+    fn can_leave(&self, table: &Table<W>, config: &Config<W>) -> bool
+        requires { IsTable table.now }
+    {
+        let mut open = config.owed.union(&config.free);
+        if self.is_sparing {
+            open = open.minus(&table.unanswered.minus(&table.writes));
+        }
+        self.givers(config.value).meets(&open)
+    }
 }
 
 /// The slots of the calls that must take effect, and find a value.
 pub(crate) fn finders<const W: usize>(table: &Table<W>, config: &Config<W>) -> Slots<W> {
     config.owed.minus(&table.writes.union(&table.misses))
-}
-
-/// Whether it replies, and found a value.
-fn finds(op: &Op) -> bool {
-    op.rank < NEVER && !writes(op) && !misses(op)
-}
-
-/// Counts one more at a place.
-fn add(counts: &mut [u32], place: usize) {
-    if let Some(count) = counts.get_mut(place) {
-        *count = count.saturating_add(1);
-    }
-}
-
-/// The number at the place of a value.
-fn get(numbers: &[usize], value: u32) -> usize {
-    match numbers.get(value as usize) {
-        Some(number) => *number,
-        None => 0,
-    }
-}
-
-/// The count at the place of a value.
-fn get_count(counts: &[u32], value: u32) -> u32 {
-    match counts.get(value as usize) {
-        Some(count) => *count,
-        None => 0,
-    }
-}
-
-/// For each operation that replies, how many calls there are up to the last one before its reply that gives
-/// what it finds. Operations are numbered by call.
-fn last_givers(
-    alloc: Global,
-    ops: &[Op],
-    events: &[Moment],
-    values: usize,
-) -> Result<Vec<usize>, AllocError> {
-    let mut last = vec![in alloc; 0; values]?;
-    let mut all = vec![in alloc; usize::MAX; ops.len()]?;
-    for event in events {
-        match *event {
-            Moment::Call(number) => {
-                if let Some(op) = ops.get(number as usize) {
-                    give(&mut last, op, number as usize);
-                }
-            }
-            Moment::Reply(number) => {
-                if let (Some(op), Some(place)) = (
-                    ops.get(number as usize),
-                    all.get_mut(number as usize),
-                ) {
-                    *place = get(&last, op.from);
-                }
-            }
-        }
-    }
-    Ok(all)
-}
-
-/// Notes a change as the last one that gives its value.
-fn give(last: &mut [usize], op: &Op, number: usize) {
-    if !looks(op) {
-        if let Some(place) = last.get_mut(op.to as usize) {
-            *place = number.saturating_add(1);
-        }
-    }
 }
 
 /// No slots for any value.

@@ -1,5 +1,5 @@
 //! A run in short legs, whose yes alone counts. Each leg has sets as wide as its own open calls need, and few
-//! configurations go on. Where none is left, the legs before are run again with more of them. Nothing is
+//! configurations go on. If none is left, the legs before are run again with more of them. Nothing is
 //! proved of it but that it is safe: the order that it finds is checked.
 //!
 //! Of calls that change alike and never reply, few are open at a time: a leg ends without those that were
@@ -12,8 +12,8 @@ use crate::baton::Baton;
 use crate::bounds::Bound;
 use crate::leg::{Track, next_leg};
 use crate::moment::Moment;
+use crate::needs::Needs;
 use crate::op::Op;
-use crate::outlook::Needs;
 use crate::reached::{Reached, Taken};
 use crate::table::{NO_SLOT, elders};
 use crate::work::{Limits, Stop, Thrift, Work};

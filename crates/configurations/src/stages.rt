@@ -23,13 +23,11 @@ enum Form {
     /// The same, but that configurations are let go that are unlikely to explain what comes: only a yes
     /// counts.
     Guided,
-    /// The same, and fewer calls that never reply take effect where something else explains a reply.
+    /// The same, and no call that never replies takes effect where something else explains a reply.
     Thrifty,
-    /// The same, and none of them does.
-    Thriftiest,
     /// The same as exact, but that a cas without a reply may take effect at any value: only a no counts.
     Eased,
-    /// In short legs, as thrifty: only a yes counts.
+    /// As guided, in short legs, which go back if no configuration is left: only a yes counts.
     Relay,
     /// One order at a time: only a yes counts.
     DepthFirst,
@@ -66,18 +64,17 @@ const ALL: u64 = 64;
 /// The stages if some changes have no reply: first those that are quick where they suffice, with few steps.
 /// An exact one comes before an eased one, since the reply that the latter names need not be the first
 /// hopeless one. The last is as wide as the bounds allow.
-const STAGES: [Stage; 12] = [
+const STAGES: [Stage; 11] = [
     stage!(DepthFirst, 1, 1, 32),
-    stage!(Thriftiest, 8, MOST, 2),
+    stage!(Thrifty, 8, MOST, 2),
     stage!(Relay, 1, MOST, 8),
-    stage!(Thriftiest, 32, MOST, 2),
+    stage!(Thrifty, 32, MOST, 2),
     stage!(Exact, MOST, 256, 2),
     stage!(Eased, MOST, 4_096, 2),
     stage!(Relay, 5, MOST, 58),
-    stage!(Thrifty, 32, MOST, 13),
-    stage!(Guided, 8, MOST, 8),
+    stage!(Guided, 64, MOST, 40),
     stage!(Exact, MOST, 2_048, 24),
-    stage!(Eased, MOST, 8_192, 56),
+    stage!(Eased, MOST, 8_192, 60),
     stage!(Exact, MOST, MOST, ALL),
 ];
 
@@ -209,7 +206,6 @@ fn run_stage<const W: usize>(
         Form::Exact => run::<W>(alloc, ops, events, &mut own)?,
         Form::Guided => run::<W>(alloc, ops, events, &mut own)?,
         Form::Thrifty => run::<W>(alloc, ops, events, &mut own)?,
-        Form::Thriftiest => run::<W>(alloc, ops, events, &mut own)?,
         Form::Eased => eased_run::<W>(alloc, ops, events, &mut own)?,
         Form::Relay => relay(alloc, ops, events, &mut own)?,
         Form::DepthFirst => depth_first(alloc, ops, events, &mut own)?,
@@ -220,17 +216,14 @@ fn run_stage<const W: usize>(
 
 /// Whether configurations are let go that are unlikely to explain what comes.
 fn is_guided(form: Form) -> bool {
-    matches!(
-        form,
-        Form::Guided | Form::Thrifty | Form::Thriftiest | Form::Relay
-    )
+    matches!(form, Form::Guided | Form::Thrifty | Form::Relay)
 }
 
 /// How a stage of this form spares calls that never reply.
 fn thrift_of(form: Form) -> Thrift {
     match form {
-        Form::Thriftiest => Thrift::Most,
-        Form::Thrifty | Form::Relay => Thrift::Much,
+        Form::Thrifty => Thrift::Most,
+        Form::Relay => Thrift::Much,
         Form::Guided | Form::Exact | Form::Eased | Form::DepthFirst => Thrift::Little,
     }
 }

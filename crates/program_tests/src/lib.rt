@@ -1,7 +1,7 @@
 //! Tests of what the programs are made of, by public calls alone.
 //!
-//! In a crate of their own they don't make any other be proved a second time. What the built programs answer
-//! is tested by scripts.
+//! They are a crate of their own, so no other crate is proved a second time for them. What the built programs
+//! answer is tested by scripts.
 //!
 //! Read it in this order: `regcheck`, from the lines of an input to runs in memory; `regsearch`, the search
 //! of one register; `reglevel`, registers that are worked by hand.

@@ -7,8 +7,8 @@
 //! made it; [`legal_before`] gives an order back only if it is one of what was known just before a reply, and
 //! [`reply_time`] the time of a reply. [`timeline`] puts the calls and the replies in order.
 //! [`first_unwritten`] finds a value that nobody gave the register, and [`order_in_turn`] needs no search
-//! where operations take turns. [`order_of`] promises nothing: it makes an order from changes, and that is to
-//! be checked.
+//! if operations take turns. [`order_of`] promises nothing: it makes an order from changes, which has to be
+//! checked.
 //!
 //! The search is that of `configurations`, the floor below, which knows operations by numbers alone. It gives
 //! the changes that took effect, and this crate makes an order of all operations from them: of all that
