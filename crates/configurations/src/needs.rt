@@ -1,5 +1,5 @@
-//! Which values the calls to come need. Only stages whose yes alone counts ask for it, so nothing is proved of
-//! it but that it is safe.
+//! Which values the calls to come need. Only stages whose yes alone counts ask for it, so nothing is proved
+//! of it but that it is safe.
 use crate::moment::Moment;
 use crate::op::{NEVER, Op, looks, misses, writes};
 use std::alloc::{AllocError, Global};
