@@ -32,7 +32,7 @@ from regkit.record import Client, Recorder  # noqa: E402
 KEYS = ["x", "y"]
 PAUSE = 0.002  # seconds between two calls of a client, on average
 PATIENCE = 1.0  # seconds until a client gives up on an answer
-MOST_SECONDS = 60.0  # until a server answers for the first time, or clients get on
+MOST_SECONDS = 60.0  # until a server answers for the first time or has ended, or clients get on
 AS_EXPECTED, OTHERWISE, COMMAND_LINE, FAILED, NOT_HERE, INTERRUPTED = 0, 1, 3, 4, 5, 130
 LINEARIZABLE, NOT_LINEARIZABLE = 0, 1  # the statuses of `regkit check`
 EPILOG = """\
@@ -155,11 +155,12 @@ class Server:
         raise Stuck("\n  ".join([f"{shlex.join(self.words)} does not answer:", *told]))
 
     def stop(self, how: Optional[signal.Signals] = None) -> None:
-        """Ends the server by a signal, and waits until it is gone."""
+        """Ends the server by a signal, and waits until it is gone. One that still writes to a slow disk needs
+        time. If it were killed, its parts would outlive it, and no other could be started over its files."""
         if self.process.poll() is None:
             self.process.send_signal(how or self.last)
         try:
-            self.process.wait(10)
+            self.process.wait(MOST_SECONDS)
         except subprocess.TimeoutExpired:
             self.process.kill()
             self.process.wait()

@@ -14,7 +14,8 @@ from regkit.checker.programs import LEVEL, find_checker, find_program
 
 STORES = pathlib.Path(__file__).resolve().parents[2] / "examples/stores"
 NOT_HERE, INTERRUPTED = 5, 130
-SECONDS = 120  # until a script is taken to hang
+SECONDS = 300  # until a script is taken to hang
+LAST = 12  # lines of a failed script that are shown
 
 
 class Stores(unittest.TestCase):
@@ -66,7 +67,7 @@ class Stores(unittest.TestCase):
         script = self.start(store, "--seconds", "1")
         told = self.end(script)
         self.skip_if_not_here(script, told)
-        self.assertEqual(script.returncode, 0, told)
+        self.assertEqual(script.returncode, 0, "\n".join(["", "…", *told.splitlines()[-LAST:]]))
         pages = {f"{store}-{run}.levels.html" for run in others if find_program(LEVEL)}
         self.assertEqual({path.name for path in self.pages.iterdir()}, pages | {
             f"{store}-{run}.{end}" for run in (*linearizable, *others) for end in ("jsonl", "txt", "html")})

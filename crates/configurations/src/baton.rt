@@ -24,12 +24,15 @@ const HELD_FOR_A_LEG: usize = 1_024;
 
 /// How many steps it takes to hand a call over, which is counted by what it changes, beside one for each
 /// [`WORDS_PER_STEP`] words, among which a slot is looked for.
-const STEPS_PER_CALL: usize = 16;
+const STEPS_PER_CALL: usize = 24;
 
 const WORDS_PER_STEP: usize = 16;
 
 /// How many it takes to hand one over that is held back, in most legs.
 const STEPS_PER_HELD: usize = 1;
+
+/// How many it takes to copy what is known of a value, beside one for each eight words.
+const STEPS_PER_VALUE: usize = 4;
 
 /// How many steps it takes to hand a configuration over, beside one for each call.
 const STEPS_PER_RUNNER: usize = 4;
@@ -85,7 +88,7 @@ impl Baton {
         }
     }
 
-    /// How many steps it takes to begin with it and to hand the next one over, with sets of so many words.
+    /// How many steps it takes to begin with it and to hand its calls over again, with sets of so many words.
     pub(crate) fn cost(&self, words: usize) -> u64 {
         let each = self.calls.len().saturating_add(STEPS_PER_RUNNER);
         let calls = self
@@ -98,7 +101,10 @@ impl Baton {
             STEPS_PER_HELD
         };
         let held = self.reserve.len().saturating_mul(each_held);
-        let values = self.sight.values().saturating_mul(words / 8 + 1);
+        let values = self
+            .sight
+            .values()
+            .saturating_mul(STEPS_PER_VALUE + words / 8);
         let all = self.runners.len().saturating_mul(each);
         all.saturating_add(calls)
             .saturating_add(held)

@@ -88,7 +88,7 @@ fn stands_for<const W: usize>(table: &Table<W>, first: &Config<W>, second: &Conf
     ensures { IsTrue result → CanAll table.now first.now second.now }
 {
     if first.value == second.value {
-        if first.owed.is_within(&second.owed) && second.free.is_within(&first.free) {
+        if second.free.is_within(&first.free) && first.owed.is_within(&second.owed) {
             return second
                 .owed
                 .is_within(&first.owed.union(&first.free).union(&table.looks));
@@ -157,4 +157,23 @@ pub(crate) fn admit<const W: usize>(
     };
     set.push(&Config { last, ..*config })?;
     Ok(())
+}
+
+/// The places of configurations, those with the least burden first; of equal ones, the first.
+pub(crate) fn ranked<const W: usize>(
+    alloc: Global,
+    configs: &[Config<W>],
+) -> Result<Vec<usize>, AllocError> {
+    let mut ranked = Vec::new(alloc);
+    for (at, config) in configs.iter().enumerate() {
+        ranked.push((burden(config), at))?;
+    }
+    ranked.sort_unstable();
+    ranked.iter().map(|one| one.1).collect(alloc)
+}
+
+/// What speaks against a configuration: what it cost that calls took effect which never reply, and how many
+/// calls must still take effect.
+fn burden<const W: usize>(config: &Config<W>) -> u32 {
+    config.cost.saturating_add(config.owed.count())
 }

@@ -6,20 +6,19 @@ ghost use Rattle.configurations.specs.Tables.{IsTable, IsWithin, call_at};
 ghost use Rattle.configurations.specs.declared.moment.Moment.TheVariants.{Reply as AReply};
 ghost use Rattle.slot_sets.specs.Sets.{has};
 
-use crate::config::{Config, Configs};
-use crate::outlook::{Outlook, STEPS_PER_FINDER, Supply, finders};
+use crate::config::{Config, Configs, ranked};
+use crate::outlook::{Outlook, Supply};
 use crate::reply::{
     Lists, STEPS_PER_RIVAL, STEPS_PER_TRIAL, fitting, has_elder, is_led, is_of_use, offspring,
     put_down,
 };
-use crate::table::Table;
-use crate::work::{Stop, Thrift, Work};
+use crate::table::{Table, WRITE_COST};
+use crate::work::{Stop, Work};
 use slot_sets::Slots;
-use std::alloc::{AllocError, Global};
 use std::mem;
 
 /// What it costs if a value that is needed rests on a call that never replies.
-const DOUBT: u32 = 12;
+const DOUBT: u32 = WRITE_COST;
 
 /// The step over the reply of the call of a slot.
 pub(crate) fn go_over<const W: usize>(
@@ -117,22 +116,6 @@ fn put_down_at<const W: usize>(
     }
 }
 
-/// The places of configurations, those with the least burden first; of equal ones, the first.
-fn ranked<const W: usize>(alloc: Global, configs: &[Config<W>]) -> Result<Vec<usize>, AllocError> {
-    let mut ranked = Vec::new(alloc);
-    for (at, config) in configs.iter().enumerate() {
-        ranked.push((burden(config), at))?;
-    }
-    ranked.sort_unstable();
-    ranked.iter().map(|one| one.1).collect(alloc)
-}
-
-/// What speaks against a configuration: what it cost that calls took effect which never reply, and how many
-/// calls must still take effect.
-fn burden<const W: usize>(config: &Config<W>) -> u32 {
-    config.cost.saturating_add(config.owed.count())
-}
-
 /// A configuration goes on, unless no order is left for it.
 #[inline(always)]
 fn set_down<const W: usize>(
@@ -174,13 +157,32 @@ fn go_on<const W: usize>(
     if config.owed.has(reply) || !config.free.has(reply) {
         return put_down(table, lists, config, taken, reply);
     }
+    go_on_without(table, lists, config, taken, reply)?;
+    put_down(table, lists, &owing(table, config, reply), taken, reply)
+}
+
+/// A configuration goes on without the call that replies, unless a value that is needed can't be had then.
+#[inline(always)]
+fn go_on_without<const W: usize>(
+    table: &Table<W>,
+    lists: &mut Lists<W>,
+    config: &Config<W>,
+    taken: Option<u32>,
+    reply: u32,
+) -> Result<(), Stop>
+    requires table { IsTable table.now }
+    requires held { IsHeld (has table.now.used) config.now }
+    requires reply { has table.now.used reply ≡ true }
+    requires apart { AreApart table.now reply lists.old.work lists.old.next }
+    ensures { IfOk result (λ _. AreApart table.now reply lists.new.work lists.new.next) }
+{
     let dropped = dropping(table, config, reply);
     let value = table.left(reply, config.value);
     let cost = cost_without(table, &lists.outlook, &mut lists.spent, &dropped, value)?;
-    if let Some(cost) = cost {
-        put_down(table, lists, &at_cost(table, &dropped, cost), taken, reply)?;
+    match cost {
+        Some(cost) => put_down(table, lists, &at_cost(table, &dropped, cost), taken, reply),
+        None => Ok(()),
     }
-    put_down(table, lists, &owing(table, config, reply), taken, reply)
 }
 
 /// The configuration without the call of a slot, if that needn't take effect.
@@ -311,7 +313,9 @@ fn try_all<const W: usize>(
     requires apart { AreApart table.now reply lists.old.work lists.old.next }
     ensures { IfOk result (λ _. AreApart table.now reply lists.new.work lists.new.next) }
 {
-    let spared = spared(table, &lists.outlook, &mut lists.spent, config, reply)?;
+    let spared = lists
+        .outlook
+        .spared(table, config, reply, &mut lists.spent)?;
     let slots = fitting(table, config, &spared);
     try_each(table, lists, config, &slots, reply)
 }
@@ -331,47 +335,4 @@ fn pass<const W: usize>(table: &Table<W>, lists: &mut Lists<W>, reply: u32) -> R
         try_all(table, lists, &config, reply)?;
     }
     Ok(())
-}
-
-/// The calls that never reply, but for those that may take effect at once; none if they aren't spared.
-fn spared<const W: usize>(
-    table: &Table<W>,
-    outlook: &Outlook<W>,
-    spent: &mut Work,
-    config: &Config<W>,
-    reply: u32,
-) -> Result<Slots<W>, Stop>
-    requires table { IsTable table.now }
-{
-    if !outlook.is_sparing {
-        return Ok(Slots::none());
-    }
-    match spent.thrift() {
-        Thrift::Most => return Ok(table.unanswered),
-        Thrift::Much => return Ok(table.unanswered.minus(&table.alike(reply))),
-        Thrift::Little => {}
-    }
-    let finders = finders(table, config);
-    spent.spend(
-        (finders.count() as u64).saturating_mul(STEPS_PER_FINDER.saturating_add(W as u64)),
-    )?;
-    Ok(table.unanswered.minus(&given_to(table, outlook, &finders)))
-}
-
-/// The slots of the calls that give what one of these finds.
-fn given_to<const W: usize>(table: &Table<W>, outlook: &Outlook<W>, finders: &Slots<W>) -> Slots<W>
-    requires table { IsTable table.now }
-{
-    let mut all = Slots::none();
-    let mut at = 0;
-    for _ in 0..finders.count() {
-        let Some(slot) = finders.first_from(at) else {
-            break
-        };
-        if let Some(op) = table.op_of(table.call(slot)) {
-            all = all.union(&outlook.givers(op.from));
-        }
-        at = slot + 1;
-    }
-    all
 }

@@ -21,6 +21,10 @@ use crate::work::{Stop, Work};
 use slot_sets::Slots;
 use std::alloc::{AllocError, Global};
 
+/// How many steps it takes to go over an event of a leg, which may be gone over again, and to hand its call
+/// over, beside those that a run takes.
+const STEPS_PER_LEG_EVENT: u64 = 24;
+
 /// What is handed from leg to leg, whatever the configurations.
 #[derive(Drop)]
 pub(crate) struct Track {
@@ -160,8 +164,7 @@ fn run_leg<const W: usize>(
     requires table { IsTable table.old }
 {
     let alloc = lists.spent.alloc();
-    let length = end.saturating_sub(baton.place) as u64;
-    lists.spent.spend(baton.cost(W).saturating_add(length))?;
+    lists.spent.spend(baton.cost(W))?;
     let slots = give_all(alloc, table, &mut lists.outlook, &baton.calls)?;
     let mut now = Configs::new(alloc, baton.sight.values())?;
     seat_all(table, &mut now, &mut lists.spent, baton, &slots)?;
@@ -170,6 +173,7 @@ fn run_leg<const W: usize>(
             return Err(Stop::Bound(Bound::Steps));
         };
         forget_moves(&now, &mut lists.spent)?;
+        lists.spent.spend(STEPS_PER_LEG_EVENT)?;
         lists.spent.go_to(place)?;
         step_over(table, &mut now, lists, *event)?;
         if now.list.is_empty() {

@@ -8,12 +8,12 @@ use crate::moment::Moment;
 use crate::needs::{Needs, Sight};
 use crate::op::{Op, looks};
 use crate::table::Table;
-use crate::work::{Stop, Work};
+use crate::work::{Stop, Thrift, Work};
 use slot_sets::Slots;
 use std::alloc::{AllocError, Global};
 
 /// How many steps it spends to look at an open call that may need a value.
-pub(crate) const STEPS_PER_FINDER: u64 = 2;
+const STEPS_PER_FINDER: u64 = 2;
 
 /// What calls ask for, and which of the open ones give it.
 #[derive(Drop)]
@@ -220,10 +220,53 @@ impl<const W: usize> Outlook<W> {
         }
         self.givers(config.value).meets(&open)
     }
+
+    /// The calls that never reply, but for those that may take effect at once; none if they aren't spared.
+    pub(crate) fn spared(
+        &self,
+        table: &Table<W>,
+        config: &Config<W>,
+        reply: u32,
+        spent: &mut Work,
+    ) -> Result<Slots<W>, Stop>
+        requires { IsTable table.now }
+    {
+        if !self.is_sparing {
+            return Ok(Slots::none());
+        }
+        match spent.thrift() {
+            Thrift::Most => return Ok(table.unanswered),
+            Thrift::Much => return Ok(table.unanswered.minus(&table.alike(reply))),
+            Thrift::Little => {}
+        }
+        let finders = finders(table, config);
+        spent.spend(
+            (finders.count() as u64).saturating_mul(STEPS_PER_FINDER.saturating_add(W as u64)),
+        )?;
+        Ok(table.unanswered.minus(&self.given_to(table, &finders)))
+    }
+
+    /// The slots of the calls that give what one of these finds.
+    fn given_to(&self, table: &Table<W>, finders: &Slots<W>) -> Slots<W>
+        requires { IsTable table.now }
+    {
+        let mut all = Slots::none();
+        let mut at = 0;
+        for _ in 0..finders.count() {
+            let Some(slot) = finders.first_from(at) else {
+                break
+            };
+            if let Some(op) = table.op_of(table.call(slot)) {
+                all = all.union(&self.givers(op.from));
+            }
+            at = slot + 1;
+        }
+        all
+    }
 }
 
 /// The slots of the calls that must take effect, and find a value.
-pub(crate) fn finders<const W: usize>(table: &Table<W>, config: &Config<W>) -> Slots<W> {
+fn finders<const W: usize>(table: &Table<W>, config: &Config<W>) -> Slots<W> {
     config.owed.minus(&table.writes.union(&table.misses))
 }
 

@@ -13,7 +13,7 @@ use std::alloc::{AllocError, Global};
 use std::collections::BTreeMap;
 
 /// The cost of letting a write that never replies take effect; a call that must still take effect counts 1.
-const WRITE_COST: u32 = 12;
+pub(crate) const WRITE_COST: u32 = 12;
 
 /// The cost of letting a cas from a value take effect that never replies.
 const CAS_COST: u32 = 8;
@@ -44,6 +44,8 @@ pub(crate) struct Table<const W: usize> {
     pub asks: Vec<Slots<W>>,
     /// By call, the last one before it that changes alike, if neither replies. Nothing rests on them.
     pub elders: Vec<usize>,
+    /// By slot, that of the elder of its call.
+    elder_slots: Vec<u32>,
 }
 
 impl<const W: usize> Table<W> {
@@ -65,6 +67,7 @@ impl<const W: usize> Table<W> {
             unanswered: Slots::none(),
             asks: nothing_asked(alloc, values)?,
             elders: elders(alloc, ops)?,
+            elder_slots: vec![in alloc; NO_SLOT; 64 * W]?,
         })
     }
 
@@ -91,6 +94,7 @@ impl<const W: usize> Table<W> {
             unanswered: Slots::none(),
             asks: nothing_asked(alloc, values)?,
             elders,
+            elder_slots: vec![in alloc; NO_SLOT; 64 * W]?,
         })
     }
 
@@ -174,8 +178,7 @@ impl<const W: usize> Table<W> {
     /// reply either.
     #[inline(always)]
     pub(crate) fn elder(&self, slot: u32) -> Option<u32> {
-        let elder = *self.elders.get(self.call(slot) as usize)?;
-        self.slot_of.get(elder).copied()
+        self.elder_slots.get(slot as usize).copied()
     }
 
     /// The slots of the calls whose `from` is this value.
@@ -247,6 +250,13 @@ impl<const W: usize> Table<W> {
         mark(&mut self.misses, slot, misses(&op));
         mark(&mut self.unanswered, slot, op.rank >= NEVER);
         self.asks[from].insert(slot);
+        note_elder(
+            &mut self.elder_slots,
+            place,
+            &self.elders,
+            &self.slot_of,
+            call,
+        );
         Some(slot)
     }
 
@@ -265,6 +275,20 @@ impl<const W: usize> Table<W> {
         if from < self.asks.len() {
             self.asks[from].remove(slot);
         }
+    }
+}
+
+/// Notes the slot of the elder of a call at its own slot.
+fn note_elder(
+    elder_slots: &mut [u32],
+    slot: usize,
+    elders: &[usize],
+    slot_of: &[u32],
+    call: usize,
+) {
+    let elder = elders.get(call).and_then(|elder| slot_of.get(*elder));
+    if let Some(place) = elder_slots.get_mut(slot) {
+        *place = elder.copied().unwrap_or(NO_SLOT);
     }
 }
 

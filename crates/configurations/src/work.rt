@@ -15,6 +15,9 @@ const STEPS_PER_REUSE: u64 = 16;
 /// How many moves are remembered before any are forgotten.
 const LEAST_MOVES: usize = 1 << 14;
 
+/// How many steps it spends to go over an event, beside one for each word of each configuration.
+const STEPS_PER_EVENT: u64 = 8;
+
 /// How many steps it spends to find the place of a configuration among the best, beside one for each word.
 const STEPS_PER_PLACE: u64 = 8;
 
@@ -214,7 +217,10 @@ impl Work {
     /// words. A single one of one word costs none: there are no more events than an input may have.
     pub(crate) fn spend_on(&mut self, configurations: usize, words: usize) -> Result<(), Stop> {
         let all = (configurations as u64).saturating_mul(words as u64);
-        self.spend(all.saturating_sub(1))
+        if all <= 1 {
+            return Ok(());
+        }
+        self.spend(all.saturating_add(STEPS_PER_EVENT))
     }
 
     /// Spends the steps of putting so many configurations in order.

@@ -1,6 +1,6 @@
 use Rattle.std.proofs.Common.{◌≡◌, ◌∙◌, ◌<◌, ◌*◌, [], ap, arith, length, refl, slice_get, Some, sym, false}
 use Rattle.std.proofs.lemmas.Option.{get_or_from_slice_get, slice_get_read}
-use Rattle.std.specs.Vec.{with_item}
+use Rattle.std.specs.Vec.{with_item, with_items}
 use Rattle.slot_sets.specs.Sets.{has}
 use Rattle.configurations.specs.declared.table.Table.{Table}
 use Rattle.configurations.proofs.Tables.{IsGiving, given_is, given_table}
@@ -31,6 +31,7 @@ returns g c =
       unanswered = c.mark-4.new.slots;
       asks = with_item t.asks op.from c.insert-2.new.self;
       elders = t.elders;
+      elder_slots = with_items t.elder_slots c.note_elder.new.elder_slots;
     } in
     let giving : IsGiving t u slot c.args.number op c.insert-2.new.self = record {
       op = sym c.op_of.ensures ∙ c.in-Some-Some.is-0;
