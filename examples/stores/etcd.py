@@ -11,8 +11,8 @@ from contextlib import closing
 from functools import partial
 from typing import Any, Dict, NamedTuple, Optional, Tuple
 
-from harness import (KEYS, LINEARIZABLE, NOT_LINEARIZABLE, PATIENCE, Connection, Lab, Scenario, Server,
-                     Several, Unanswered, User, clients, five_users, free_ports, main)
+from harness import (KEYS, LINEARIZABLE, MOST_SECONDS, NOT_LINEARIZABLE, PATIENCE, Connection, Lab, Scenario,
+                     Server, Several, Unanswered, User, clients, five_users, free_ports, main)
 from regkit.record import Recorder  # harness has found it
 
 PROGRAM = shutil.which("etcd")
@@ -26,9 +26,9 @@ def encoded(text: str) -> str:
 class Etcd(Connection):
     """A connection to a node's JSON gateway. A serializable read is answered by the node alone."""
 
-    def __init__(self, node: str, port: int, serializable: bool) -> None:
+    def __init__(self, node: str, port: int, serializable: bool, patience: float = PATIENCE) -> None:
         self.node = node
-        self.http = http.client.HTTPConnection("127.0.0.1", port, timeout=PATIENCE)
+        self.http = http.client.HTTPConnection("127.0.0.1", port, timeout=patience)
         self.serializable = serializable
 
     def ask(self, path: str, **members: object) -> Dict[str, Any]:
@@ -66,7 +66,7 @@ class Node(NamedTuple):
         return Etcd(self.name, self.port, serializable)
 
     def ask(self, path: str, **members: object) -> Dict[str, Any]:
-        with closing(self.connect()) as connection:
+        with closing(Etcd(self.name, self.port, False, MOST_SECONDS)) as connection:
             return connection.ask(path, **members)
 
     def status(self) -> Tuple[int, int]:

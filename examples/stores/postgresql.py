@@ -14,8 +14,8 @@ import sys
 from contextlib import closing
 from typing import List, Optional, Tuple
 
-from harness import (KEYS, LINEARIZABLE, NOT_LINEARIZABLE, PATIENCE, Connection, Lab, Scenario, Server,
-                     Stuck, Unanswered, as_user, clients, five_users, main)
+from harness import (KEYS, LINEARIZABLE, MOST_SECONDS, NOT_LINEARIZABLE, PATIENCE, Connection, Lab, Scenario,
+                     Server, Stuck, Unanswered, as_user, clients, five_users, main)
 from regkit.record import Recorder  # harness has found it
 
 PROTOCOL = 0x30000  # version 3.0
@@ -41,9 +41,9 @@ def other_user() -> str:
 class Postgres(Connection):
     """A connection that speaks PostgreSQL's protocol: a simple query, and the first column of its rows."""
 
-    def __init__(self, path: str) -> None:
+    def __init__(self, path: str, patience: float = PATIENCE) -> None:
         self.socket = socket.socket(socket.AF_UNIX)
-        self.socket.settimeout(PATIENCE)
+        self.socket.settimeout(patience)
         self.answers = self.socket.makefile("rb")
         try:
             self.socket.connect(path)
@@ -105,20 +105,24 @@ class RepeatableReads(Postgres):
 
 
 class Database:
-    """A server with a table of registers. Its socket is in a folder of its own: it has no port."""
+    """A server with a table of registers. Its socket is in a folder of its own: it has no port.
+
+    Only the server is ever stopped, not the machine, so what it hands to the system outlives it. It need not
+    wait for the disk, which may be slow."""
 
     def __init__(self, lab: Lab, *settings: str) -> None:
         self.lab, self.user = lab, other_user()
         self.folder = lab.new_folder("postgresql", self.user)
         self.socket = str(self.folder / ".s.PGSQL.5432")
-        self.settings = [word for setting in ("listen_addresses=", *settings) for word in ("-c", setting)]
+        self.settings = [word for setting in ("listen_addresses=", "fsync=off", *settings)
+                         for word in ("-c", setting)]
         words = [INITDB or "", "-D", str(self.folder / "data"), "-U", "tester", "-A", "trust", "-E", "UTF8",
                  "--locale=C", "--no-sync"]
         made = subprocess.run(as_user(self.user, words), capture_output=True, cwd="/", check=False)
         if made.returncode:
             raise Stuck(f"initdb failed: {made.stderr.decode(errors='replace').strip()}")
         self.server = self.start()
-        with closing(self.connect()) as connection:
+        with closing(Postgres(self.socket, MOST_SECONDS)) as connection:
             connection.query("CREATE TABLE register (name text PRIMARY KEY, value bigint)")
             connection.query("INSERT INTO register VALUES " + ", ".join(f"('{key}')" for key in KEYS))
 

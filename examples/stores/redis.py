@@ -9,8 +9,8 @@ from contextlib import closing
 from functools import partial
 from typing import List, Optional
 
-from harness import (LINEARIZABLE, NOT_LINEARIZABLE, PATIENCE, Connection, Lab, Scenario, Server, Several,
-                     Unanswered, clients, five_users, free_ports, main)
+from harness import (LINEARIZABLE, MOST_SECONDS, NOT_LINEARIZABLE, PATIENCE, Connection, Lab, Scenario,
+                     Server, Several, Unanswered, clients, five_users, free_ports, main)
 from regkit.record import Recorder  # harness has found it
 
 PROGRAM = shutil.which("redis-server")
@@ -20,9 +20,9 @@ LAGS = [0.02, 0.05]  # seconds that the links to two replicas take
 class Redis(Connection):
     """A connection that speaks Redis's protocol."""
 
-    def __init__(self, node: str, port: int) -> None:
+    def __init__(self, node: str, port: int, patience: float = PATIENCE) -> None:
         self.node = node
-        self.socket = socket.create_connection(("127.0.0.1", port), PATIENCE)
+        self.socket = socket.create_connection(("127.0.0.1", port), patience)
         self.answers = self.socket.makefile("rb")
 
     def ask(self, *words: object) -> Optional[bytes]:
@@ -65,7 +65,7 @@ class Node:
         return Redis(self.name, self.port)
 
     def ask(self, *words: object) -> Optional[bytes]:
-        with closing(self.connect()) as connection:
+        with closing(Redis(self.name, self.port, MOST_SECONDS)) as connection:
             return connection.ask(*words)
 
     def in_step(self) -> None:
