@@ -154,7 +154,7 @@ try:
 test:
 	tests/gate
 
-# Over what `make` proved: what isn't proved yet is proved in the copy first.
+# Over what `make` or `make test` left: what isn't proved yet is proved in the copy first.
 edits:
 	tests/check_edits
 	tests/try_edits
