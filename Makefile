@@ -1,9 +1,9 @@
 # make: prove and build bin/regcheck, bin/regsearch and bin/reglevel.
 # make help: show these lines.
 # make run: run regcheck on a shipped example, or on FILE=...
-# make try: the same at once, unproved and with checks at run time; for a first look. PROGRAM=regsearch takes
+# make try: run an unproved build on it, with checks at run time; for a first look. PROGRAM=regsearch takes
 #   repeated values and cas, and PROGRAM=reglevel says which weaker levels hold.
-# make test: the gate: every proof, edits that must fail, tests, and scripts over the built program.
+# make test: the gate: every proof, edits that must fail, tests, and scripts over the built programs.
 # make edits: try the wrong bodies that `make test` leaves out, in half an hour: after a change of a contract
 #   or of a body that they edit.
 # make costs: write the tables of what the programs spend, after a change that is meant to cost more or less.
@@ -34,7 +34,7 @@
 # make arm64-test: run the programs and the library for ARM64 as the gate runs those for x86-64; it needs
 #   qemu-user-static.
 # make stores: record real stores and check them, those whose servers are installed, with pages in STORES=...
-#   REGCHECK=... names the program, which is built else.
+#   REGCHECK=... names the program; without it, make builds one.
 FILE ?= examples/new_old_inversion.jsonl
 PROGRAM ?= regcheck
 PREFIX ?= /usr/local

@@ -1,4 +1,4 @@
-"""Runs of programs on histories: what each spent, and the folder where the histories lie."""
+"""Runs of programs on histories: what each spent, the folder where the histories lie, and the table of it."""
 import contextlib
 import os
 import pathlib
@@ -41,3 +41,13 @@ def folder_of(kept: Optional[pathlib.Path]) -> Iterator[pathlib.Path]:
         return
     with tempfile.TemporaryDirectory() as name:
         yield pathlib.Path(name)
+
+
+def print_line(fields: Sequence[str]) -> None:
+    """Prints a line of a Markdown table at once."""
+    print("| " + " | ".join(fields) + " |", flush=True)
+
+
+def print_heads(heads: Sequence[str]) -> None:
+    print_line(heads)
+    print("|" + "---|" * len(heads))

@@ -56,8 +56,8 @@ class Rows:
         self.known = Known(choices, choices.form, what="column" if self.is_csv else "member")
         self.timed = TimedOperations()
         self.outcomes = Outcomes(choices)
-        self.empty: Optional[int] = None  # the line of the first outcome that is an empty text
-        self.well: Optional[int] = None  # and of the first that is ok
+        self.first_empty: Optional[int] = None  # the line of the first outcome that is an empty text
+        self.first_ok: Optional[int] = None
 
     def take(self, row: Row) -> None:
         is_blank = self.is_csv and is_nothing(row.register)
@@ -281,15 +281,15 @@ class Rows:
                           "if it certainly had no effect), or which column is the outcome with --columns "
                           "outcome=NAME", row.line)
         if outcome is not None and not word:
-            self.empty = self.empty or row.line
+            self.first_empty = self.first_empty or row.line
         elif word.lower() == "ok":
-            self.well = self.well or row.line
+            self.first_ok = self.first_ok or row.line
         return self.choices.failure_of(kind) if word.lower() == "fail" else ENDINGS[OUTCOMES[word.lower()]]
 
     def source(self) -> Source:
-        if self.empty and self.well:
-            raise Refused(f"the outcome is empty, and at line {self.well} it is ok: say --outcomes =ok if "
-                          "empty means ok too, or --outcomes =unknown", self.empty)
+        if self.first_empty and self.first_ok:
+            raise Refused(f"the outcome is empty, and at line {self.first_ok} it is ok: say --outcomes =ok "
+                          "if empty means ok too, or --outcomes =unknown", self.first_empty)
         source = self.timed.source(self.choices)
         source.notes.extend(self.outcomes.notes())
         settle(source, self.choices)
