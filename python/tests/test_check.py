@@ -22,6 +22,7 @@ from regkit.judging.outcome import gravest
 from regkit.words import progress
 
 from .events import Line, gave, read, reply, run, stale, text, write
+from .folders import InFolder
 
 ROOT = pathlib.Path(__file__).resolve().parents[2]
 EXAMPLES = ROOT / "examples"
@@ -29,12 +30,7 @@ FINE = [write(1, 5), read(2), gave(2, 5), reply(1), read(2), gave(2, 5)]
 STALE = [write(1, 5), reply(1), read(2), gave(2, None)]
 
 
-class Files(unittest.TestCase):
-    def setUp(self) -> None:
-        folder = tempfile.TemporaryDirectory()
-        self.addCleanup(folder.cleanup)
-        self.folder = pathlib.Path(folder.name)
-
+class Files(InFolder):
     def file(self, name: str, data: bytes) -> str:
         path = self.folder / name
         path.parent.mkdir(exist_ok=True)

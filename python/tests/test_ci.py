@@ -1,8 +1,6 @@
 """What CI reads: JUnit's XML, GitHub's annotations, and the page of a folder's runs."""
 import os
-import pathlib
 import re
-import tempfile
 import unittest
 from typing import List
 from unittest import mock
@@ -15,6 +13,7 @@ from regkit.judging.junit import document
 from regkit.judging.outcome import Outcome, TimedOutcome
 
 from .events import Line, gave, read, reply, run, stale, text, write
+from .folders import InFolder
 from .test_draw import DANGEROUS, Elements
 
 FINE = [write(1, 5), reply(1), read(2), gave(2, 5)]
@@ -22,12 +21,7 @@ INVERSION = [write(1, 1), reply(1), write(1, 2), read(2), gave(2, 2), read(2), g
 HOSTILE = "a\x1b\u202e<&\"'%,:\n]]>"
 
 
-class Files(unittest.TestCase):
-    def setUp(self) -> None:
-        folder = tempfile.TemporaryDirectory()
-        self.addCleanup(folder.cleanup)
-        self.folder = pathlib.Path(folder.name)
-
+class Files(InFolder):
     def file(self, name: str, events: List[Line]) -> str:
         (self.folder / name).write_bytes(text(*events))
         return str(self.folder / name)

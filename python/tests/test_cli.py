@@ -16,6 +16,7 @@ from regkit.checker import programs as checker
 from regkit.cli import COMMANDS
 
 from .events import gave, read, reply, run, text, write
+from .folders import InFolder
 
 PYTHON = pathlib.Path(__file__).resolve().parents[1]
 FINE = text(write(1, 5), reply(1), read(2), gave(2, 5))
@@ -128,12 +129,7 @@ class ManPage(unittest.TestCase):
         self.assertIn(f"$ regkit explain cache.jsonl\n{out}.fi\n", self.page)
 
 
-class Archive(unittest.TestCase):
-    def setUp(self) -> None:
-        folder = tempfile.TemporaryDirectory()
-        self.addCleanup(folder.cleanup)
-        self.folder = pathlib.Path(folder.name)
-
+class Archive(InFolder):
     def make(self, name: str) -> pathlib.Path:
         subprocess.run([sys.executable, str(PYTHON / "make_archive"), str(self.folder / name)], check=True)
         return self.folder / name

@@ -1,9 +1,7 @@
 """`regkit explain`: each sentence, the first read that can't be explained, the time line."""
 import json
 import os
-import pathlib
 import random
-import tempfile
 import unittest
 from typing import Any, Dict, List, Optional, Sequence, Tuple
 from unittest import mock
@@ -18,6 +16,7 @@ from regkit.history.operations import Operation, read_history
 from regkit.words.colour import Painter, painter
 
 from .events import Line, crash, fail, gave, random_history, read, reply, run, stale, text, write
+from .folders import InFolder
 
 INVERSION = [write(1, 1), reply(1), write(1, 2), read(2), gave(2, 2), read(2), gave(2, 1), reply(1)]
 STALE_FILL = [write(1, 9), reply(1), read(4), write(3, 11), reply(3), gave(4, 9), read(2), gave(2, 9)]
@@ -462,12 +461,7 @@ class Colour(unittest.TestCase):
         self.assertEqual(coloured, plain)
 
 
-class Command(unittest.TestCase):
-    def setUp(self) -> None:
-        folder = tempfile.TemporaryDirectory()
-        self.addCleanup(folder.cleanup)
-        self.folder = pathlib.Path(folder.name)
-
+class Command(InFolder):
     def file(self, name: str, data: bytes) -> str:
         (self.folder / name).write_bytes(data)
         return str(self.folder / name)

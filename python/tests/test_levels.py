@@ -4,7 +4,6 @@ import json
 import os
 import pathlib
 import shlex
-import tempfile
 import unittest
 from typing import Any, Dict, List, Optional, Tuple
 from unittest import mock
@@ -22,6 +21,7 @@ from regkit.levels.subject import Places, Subject
 from regkit.words.phrases import duration
 
 from .events import Line, Ran, gave, read, reply, run, text, write
+from .folders import InFolder
 
 ROOT = pathlib.Path(__file__).resolve().parents[2]
 EXAMPLES = ROOT / "examples" / "levels"
@@ -38,13 +38,8 @@ def stored(name: str, **more: Any) -> bytes:
     return (json.dumps({**json.loads(first), **more}) + "\n" + "".join(others)).encode()
 
 
-class Placed(unittest.TestCase):
+class Placed(InFolder):
     """A script stands in the place of reglevel."""
-
-    def setUp(self) -> None:
-        folder = tempfile.TemporaryDirectory()
-        self.addCleanup(folder.cleanup)
-        self.folder = pathlib.Path(folder.name)
 
     def in_place(self, report: bytes, status: int = 1, refusal: str = "") -> Any:
         """It notes its words, and gives the same answer to each history."""

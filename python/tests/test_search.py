@@ -1,11 +1,8 @@
 """Histories that `regsearch` decides: which program is asked, and what `regkit check` says of the answer."""
 import json
 import os
-import pathlib
 import re
 import stat
-import tempfile
-import unittest
 from typing import Any, List, Optional, Tuple
 from unittest import mock
 
@@ -18,6 +15,7 @@ from regkit.history.operations import read_history
 from regkit.testing import NotAtomic, NotChecked, TooLittleEvidence, assert_atomic
 
 from .events import Line, cas, crash, fail, gave, read, reply, run, text, took, write
+from .folders import InFolder
 from .test_draw import Elements
 
 AGAIN = [write(1, 5), reply(1), write(1, 6), reply(1), write(1, 5), reply(1), read(2)]
@@ -26,12 +24,7 @@ TWO_WINNERS = [write(1, 0), reply(1), cas(1, 0, 1), cas(2, 0, 2), took(1, True),
 NULL_TWICE = [cas(1, None, 1), cas(2, None, 2), write(3, 5), reply(3), took(1, True), took(2, True)]
 
 
-class Files(unittest.TestCase):
-    def setUp(self) -> None:
-        folder = tempfile.TemporaryDirectory()
-        self.addCleanup(folder.cleanup)
-        self.folder = pathlib.Path(folder.name)
-
+class Files(InFolder):
     def logged(self, program: str) -> "mock._patch_dict":
         """Lets each run of a program add its name to the log."""
         real, path = find_program(program), self.folder / program

@@ -1,7 +1,5 @@
 """What was a text in the source is said and drawn as that text, whatever became of the file's lines since."""
 import json
-import pathlib
-import tempfile
 import unittest
 from typing import Any, Callable, Dict, List, Optional
 
@@ -15,6 +13,7 @@ from regkit.words.quoting import columns
 
 from .convert_support import run as convert
 from .events import Line, fail, gave, read, reply, run, text, write
+from .folders import InFolder
 
 HEADER = "process,start,end,register,op,value,outcome\n"
 STALE = HEADER + "1,0,1,k,write,apple,ok\n1,2,3,k,write,pear,ok\n2,4,5,k,read,apple,ok\n"
@@ -138,13 +137,8 @@ class Reading(unittest.TestCase):
         self.assertEqual(str(excerpt(text(*lines), [row]).operation("x", 5).value), "mine")
 
 
-class Commands(unittest.TestCase):
+class Commands(InFolder):
     """All commands that say or draw values."""
-
-    def setUp(self) -> None:
-        folder = tempfile.TemporaryDirectory()
-        self.addCleanup(folder.cleanup)
-        self.folder = pathlib.Path(folder.name)
 
     def file(self, name: str, data: bytes) -> str:
         (self.folder / name).write_bytes(data)

@@ -10,7 +10,6 @@ import itertools
 import json
 import pathlib
 import sys
-import tempfile
 import unittest
 from typing import Any, Dict, List, Tuple
 from unittest import mock
@@ -18,6 +17,8 @@ from unittest import mock
 from regkit import verify
 from regkit.commands import verify as command
 from regkit.verify import claims, operations
+
+from .folders import InFolder
 
 TOP = pathlib.Path(__file__).resolve().parents[2]
 
@@ -533,13 +534,8 @@ class Refusals(unittest.TestCase):
                 verify.verify_refusal(b"", words)
 
 
-class Command(unittest.TestCase):
+class Command(InFolder):
     """The exit statuses and words of `regkit verify`."""
-
-    def setUp(self) -> None:
-        folder = tempfile.TemporaryDirectory()
-        self.addCleanup(folder.cleanup)
-        self.folder = pathlib.Path(folder.name)
 
     def file(self, name: str, content: bytes) -> str:
         path = self.folder / name
