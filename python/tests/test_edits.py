@@ -1,4 +1,5 @@
-"""The scripts that look over and try wrong bodies, on a small repository and with a stand-in for `rt`."""
+"""The scripts that look over and try wrong bodies, on a small repository and with a stand-in for the
+toolchain."""
 import os
 import pathlib
 import shutil
@@ -8,7 +9,7 @@ import tempfile
 import unittest
 from typing import Dict
 
-TESTS = pathlib.Path(__file__).resolve().parents[2] / "tests"
+ROOT = pathlib.Path(__file__).resolve().parents[2]
 SOURCE = """pub fn one() -> u8 {
     1
 }
@@ -27,10 +28,13 @@ impl Three {
     }
 }
 """
-# It says what `rt check` says of a crate in which FALSE stands in place of a right answer. The function two
+# It says what a check says of a crate in which FALSE stands in place of a right answer. The function two
 # waits for the proof of a callee, so that only a check of its edit by itself tells.
 STAND_IN = """#!{python}
 import pathlib, sys
+if sys.argv[1] == "doc":
+    print(pathlib.Path(__file__).parents[1] / "page.md")
+    sys.exit(0)
 text = pathlib.Path("src/lib.rt").read_text()
 if sys.argv[1] == "lib" or "FALSE" not in text and "UNREAD" not in text:
     sys.exit(0)
@@ -61,17 +65,19 @@ class Edits(unittest.TestCase):
         room = tempfile.TemporaryDirectory()
         self.addCleanup(room.cleanup)
         self.root = pathlib.Path(room.name)
-        for folder in ("bin", "docs", "tests", "crates/low/src", "crates/low/must-fail",
+        for folder in ("bin", "docs", "packaging", "tests", "crates/low/src", "crates/low/must-fail",
                        "crates/low/more-edits"):
             (self.root / folder).mkdir(parents=True)
-        for script in ("edits.py", "check_edits", "try_edits"):
-            shutil.copy(TESTS / script, self.root / "tests" / script)
+        for script in ("packaging/crates.py", "tests/edits.py", "tests/check_edits", "tests/try_edits"):
+            shutil.copy(ROOT / script, self.root / script)
+        stand_in = STAND_IN.format(python=sys.executable)
         texts = {"crates.txt": "low: std\n", "HANDLES": "Handles allowed: none.\n",
-                 "crates/low/src/lib.rt": SOURCE, "bin/rt": STAND_IN.format(python=sys.executable),
+                 "crates/low/src/lib.rt": SOURCE, "bin/rt": stand_in, "bin/rattle": stand_in,
                  "docs/proofs.md": "## Wrong bodies\n\n| A | b | low: `named` |\n"}
         for name, text in texts.items():
             (self.root / name).write_text(text, encoding="utf-8")
-        (self.root / "bin" / "rt").chmod(0o755)
+        for program in ("rt", "rattle"):
+            (self.root / "bin" / program).chmod(0o755)
 
     def write(self, tier: str, **texts: str) -> None:
         for name, text in texts.items():
