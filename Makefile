@@ -4,8 +4,8 @@
 # make try: run an unproved build on it, with checks at run time; for a first look. PROGRAM=regsearch takes
 #   repeated values and cas, and PROGRAM=reglevel says which weaker levels hold.
 # make test: the gate: every proof, edits that must fail, tests, and scripts over the built programs.
-# make edits: try the wrong bodies that `make test` leaves out, in half an hour: after a change of a contract
-#   or of a body that they edit.
+# make edits: try the wrong bodies that `make test` leaves out, in an hour or more: after a change of a
+#   contract or of a body that they edit.
 # make costs: write the tables of what the programs spend, after a change that is meant to cost more or less.
 # make fuzz: compare the program with the reference on spoiled histories for SECONDS=...
 # make library: bin/libregcheck.a, bin/libregcheck.so and bin/regcheck.pc, to call the checkers from C and
