@@ -249,7 +249,8 @@ dist-library:
 	CC=$(CROSS_CC) packaging/make_bill $(LIBRARY)/libregcheck.a $(LIBRARY)/$(SONAME) \
 		> $(LIBRARY_TREE)/libregcheck.spdx.json
 	mkdir -p dist
-	tar --sort=name --owner=root --group=root --mtime=@0 --mode=u+rw,go=rX -C bin/library -c . \
+	tar --sort=name --owner=root --group=root --mode=u+rw,go=rX -C bin/library -c . \
+		--mtime=@$$(PYTHONPATH=packaging python3 -c 'from release import epoch; print(epoch())') \
 		| gzip -9n > dist/$(notdir $(LIBRARY_TREE)).tar.gz
 	packaging/write_sums dist
 

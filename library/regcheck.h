@@ -55,8 +55,8 @@ void regcheck_report(const uint8_t *input, size_t input_length, uint8_t *out, si
 /* Checks the history as the program `regsearch` does, within these bounds: the steps that the search of a
    register may take, 1 to 1,000,000,000,000, and the configurations that it may hold in one list, 1 to
    1,048,576. 0 stands for the program's default, 1,000,000,000 and 65,536, and more than the most for the
-   most. Bounds count work and never time: a call may take minutes, and can't be broken off. All else is as
-   of regcheck_report. */
+   most. Bounds count work and never time: with the defaults a call may take a minute, with greater ones much
+   longer, and it can't be stopped. All else is as of regcheck_report. */
 void regsearch_report(const uint8_t *input, size_t input_length, uint64_t steps, size_t configurations,
                       uint8_t *out, size_t out_length, regcheck_answer *answer);
 

@@ -48,8 +48,9 @@ def built(crate: str, root: pathlib.Path = ROOT) -> pathlib.Path:
     return root / "crates" / crate / "out/rlib"
 
 
-def is_built(crate: str, root: pathlib.Path = ROOT) -> bool:
-    return (built(crate, root) / f"{crate}.rlib/format").is_file()
+def mark_of(crate: str) -> pathlib.Path:
+    """The file that is there once a crate's library is built, and is as old as that."""
+    return built(crate) / f"{crate}.rlib/format"
 
 
 def is_program(crate: str, root: pathlib.Path = ROOT) -> bool:

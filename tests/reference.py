@@ -45,7 +45,6 @@ TEXTS = {
     21: "a cas's reply has no ok, true or false",
     22: "old or found does not fit the event",
 }
-WITHOUT_FAIL = "event is neither call nor reply"  # text 5 of a checker that knows neither fail nor crash
 WITH_CAS = "op is neither read, write, delete, swap nor cas"  # text 6 of a checker that knows cas
 
 
@@ -53,15 +52,10 @@ class Options(NamedTuple):
     """Which checker is asked: what it knows, and what it is told."""
 
     first: bool = False  # the early answer
-    inversion: bool = True  # whether it names inversions
-    fail: bool = True  # whether it knows the events fail and crash
     cas: bool = False  # whether it knows cas, deletes, swaps, and values written twice: regsearch
 
     def ops(self) -> Tuple[str, ...]:
         return ("read", "write", "cas", "delete", "swap") if self.cas else ("read", "write")
-
-    def events(self) -> Tuple[str, ...]:
-        return ("call", "reply", "fail", "crash") if self.fail else ("call", "reply")
 
 
 class Refused(Exception):
@@ -73,8 +67,6 @@ class Refused(Exception):
 
     def text(self, options: Options) -> str:
         words = TEXTS[self.number].format(self.other)
-        if self.number == 5 and not options.fail:
-            words = WITHOUT_FAIL
         if self.number == 6 and options.cas:
             words = WITH_CAS
         return words if self.line is None else f"line {self.line}: {words}"
@@ -183,7 +175,7 @@ def event_of(number: int, line: bytes, options: Options) -> Event:
     process, what = members.get("process", ABSENT), members.get("event", ABSENT)
     if not is_whole(process, 0, MAX_PROCESS):
         raise Refused(4, number)
-    if what not in options.events():
+    if what not in ("call", "reply", "fail", "crash"):
         raise Refused(5, number)
     if what == "crash":
         return Event(number, process, what)
@@ -518,7 +510,7 @@ class Whole:
         self.line_at[0] = 0
 
 
-def row_of(whole: Whole, register: Register, options: Options) -> Dict[str, Any]:
+def row_of(whole: Whole, register: Register) -> Dict[str, Any]:
     fault = fault_of(register)
     must_agree(register.all, fault is None)
     row = {"register": register.name, "atomic": "no" if fault else "yes",
@@ -534,7 +526,7 @@ def row_of(whole: Whole, register: Register, options: Options) -> Dict[str, Any]
         row["points"] = [whole.line_at[point] for a, point in order if a.line]
     else:
         row["fault"] = fault
-        if options.inversion and row["regular"] == "yes":
+        if row["regular"] == "yes":
             row["inversion"] = fault["second"]
     return row
 
@@ -548,7 +540,7 @@ def merged_order(whole: Whole) -> List[Operation]:
 
 def rows_of(whole: Whole, options: Options) -> List[Dict[str, Any]]:
     """The lines of the report. With `first`, of the registers only the first that isn't atomic, if any."""
-    rows = [row_of(whole, register, options) for register in whole.registers]
+    rows = [row_of(whole, register) for register in whole.registers]
     bad = [row for row in rows if row["atomic"] == "no"]
     must_agree([a for register in whole.registers for a in register.all], not bad)
     summary: Dict[str, Any] = {"atomic": "no" if bad else "yes", "operations": len(whole.operations),
@@ -730,11 +722,8 @@ def words() -> argparse.Namespace:
         for file in files:
             command.add_argument(file)
         command.add_argument("--first", action="store_true", help="the early answer")
-        command.add_argument("--without-inversion", action="store_true", help="no inversion is named")
-        command.add_argument("--without-fail", action="store_true", help="fail and crash are no events")
     command = commands.add_parser("random")
     command.add_argument("--seed", type=int, required=True)
-    command.add_argument("--without-fail", action="store_true", help="no events fail and crash")
     return top.parse_args()
 
 
@@ -742,9 +731,9 @@ def main() -> int:
     arguments = words()
     if arguments.command == "random":
         import histories  # beside this file
-        sys.stdout.buffer.write(histories.random_history(arguments.seed, not arguments.without_fail))
+        sys.stdout.buffer.write(histories.random_history(arguments.seed))
         return 0
-    options = Options(arguments.first, not arguments.without_inversion, not arguments.without_fail)
+    options = Options(arguments.first)
     try:
         history = read_file(arguments.history)
     except OSError:

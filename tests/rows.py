@@ -160,7 +160,9 @@ def refused_search_cases(program: str) -> List[Case]:
     for name, text in {"by zones": WRITE_AND_READ, "not atomic, by zones": INVERSION}.items():
         cases.append(search_case(program, name, ("--steps", "1"), history(text)))
     cases.append(search_case(program, "by name", (), history(CAS))._replace(named=True))
-    cases.append(search_case(program, "in two blocks", ("--workers", "2"), in_two_blocks(history(CAS))))
+    for name, given in {"in two blocks": in_two_blocks(history(CAS)),
+                        "no ok before a block": history("p1 C x 1 2; p1 ok") + BLOCK}.items():
+        cases.append(search_case(program, name, ("--workers", "2"), given)._replace(threaded=True))
     cases.append(Case("bad words", ("--workers", "17"), history(CAS), (3, b"", BAD_WORDS)))
     cases.append(search_case(program, "sixteen_registers", ("--workers", "4"),
                              sixteen_registers())._replace(threaded=True))

@@ -1,7 +1,7 @@
 -- Of calls that change alike the one that replies first may go first.
 use Rattle.std.proofs.Common.{◌≡◌, ℕ, ◌==◌, ◌<◌, ◌≤◌, not, cond, Bool, true, false, List, []}
 use Rattle.std.proofs.Common.{◌∷◌, ◌++◌, ◌⊎◌, inl, inr, refl, sym, ap, subst, ◌∙◌, arith}
-use Rattle.std.proofs.lemmas.Bool.{false≢true}
+use Rattle.std.proofs.lemmas.Bool.{false≢true, not-true}
 use Rattle.std.proofs.lemmas.Bool.Decides.{nat_tests}
 use Rattle.history_model.specs.Lists.{In}
 use Rattle.history_model.proofs.Lists.{In-filter, filter-In, In-left, In-right, append-In}
@@ -93,13 +93,9 @@ module _ (ops : List Op) (k i j : ℕ) (p f : List ℕ) (es : List Moment) (step
     | inl h ↦
         let b = filter-In (λ z. not (stays ops k z)) x (without y p) h in
         let c = without-In y x p b.0 in
-        (inl (c.0, not_true (stays ops k x) b.1), c.1)
+        (inl (c.0, not-true (stays ops k x) b.1), c.1)
     | inr h ↦ let c = without-In y x f h in (inr c.0, c.1)
   ]
-    where
-      not_true : (b : Bool) → not b ≡ true → b ≡ false
-      not_true true e = absurd (false≢true e)
-      not_true false e = refl
 
   -- ---- both are writes
 

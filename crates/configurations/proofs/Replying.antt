@@ -2,7 +2,8 @@
 use Rattle.std.proofs.Common.{◌≡◌, ◌≢◌, ℕ, zero, suc, ◌<◌, ◌≤◌, ◌==◌, ◌&&◌, ◌||◌, not, cond}
 use Rattle.std.proofs.Common.{Bool, true, false, List, [], ◌∷◌, ◌++◌, ◌⊎◌, length, slice_get}
 use Rattle.std.proofs.Common.{Some, inl, inr, refl, sym, ap, subst, ◌∙◌, arith}
-use Rattle.std.proofs.lemmas.Bool.{false≢true, cases_Bool, cases_eq}
+use Rattle.std.proofs.lemmas.Bool.{and_from, and_parts, cases_Bool, cases_eq, false≢true, not-true}
+use Rattle.std.proofs.lemmas.Bool.{or_left, or_right}
 use Rattle.std.proofs.lemmas.Bool.Decides.{nat_tests}
 use Rattle.std.proofs.lemmas.Option.{get_or_from_slice_get}
 use Rattle.history_model.specs.Lists.{In}
@@ -40,42 +41,18 @@ in_open : (b : Bool) (ops : List Op) (k j : ℕ) (p : List ℕ) (x : ℕ) → In
 in_open true ops k j p x i n s = In-filter (stays ops k) x (without j p) (In-without j x p i n) (s refl)
 in_open false ops k j p x i n s = In-without j x p i n
 
-pub not_true : (b : Bool) → not b ≡ true → b ≡ false
-not_true true e = absurd (false≢true e)
-not_true false e = refl
-
 free_in : (b : Bool) (ops : List Op) (k j : ℕ) (p f : List ℕ) (x : ℕ)
     → In x (cond b (freed ops k (without j p) ++ without j f) (without j f))
     → (In x f × (x ≡ j → ⊥)) ⊎ (In x p × (x ≡ j → ⊥) × (b ≡ true) × (stays ops k x ≡ false))
 free_in true ops k j p f x h = elim (append-In x (freed ops k (without j p)) (without j f) h) [
   | inl a ↦
       let r = filter-In (λ i. not (stays ops k i)) x (without j p) a in
-      let w = without-In j x p r.0 in inr (w.0, w.1, refl, not_true (stays ops k x) r.1)
+      let w = without-In j x p r.0 in inr (w.0, w.1, refl, not-true (stays ops k x) r.1)
   | inr a ↦ inl (without-In j x f a)
 ]
 free_in false ops k j p f x h = inl (without-In j x f h)
 
 -- ---- tests of members
-
-pub or_left : (a b : Bool) → a ≡ true → (a || b) ≡ true
-or_left true b e = refl
-or_left false b e = absurd (false≢true e)
-
-pub or_right : (a b : Bool) → b ≡ true → (a || b) ≡ true
-or_right true b e = refl
-or_right false b e = e
-
-pub both_parts : (a b : Bool) → (a && b) ≡ true → (a ≡ true) × (b ≡ true)
-both_parts true b e = (refl, e)
-both_parts false b e = absurd (false≢true e)
-
-pub neither : (a b : Bool) → (a || b) ≡ false → (a ≡ false) × (b ≡ false)
-neither true b e = absurd (false≢true (sym e))
-neither false b e = (refl, e)
-
-pub both : (a b : Bool) → a ≡ true → b ≡ true → (a && b) ≡ true
-both true b e f = f
-both false b e f = absurd (false≢true e)
 
 module _ {W : ℕ} (t : Table W) (i : IsTable t) where
   -- calls of two slots differ
@@ -268,7 +245,7 @@ module _ {W : ℕ} where
     lacks : (used : ℕ → Bool) (s : List ℕ) (q : ℕ) → used q ≡ true → q ≢ reply → lacking used reply q ≡ true
     lacks used s q u n =
         let other : (q == reply) ≡ false = grind (arith, nat_tests) in
-        both (not (q == reply)) (used q) (ap not other) u
+        and_from (not (q == reply)) (used q) (ap not other) u
 
     -- once its call is dropped, no slot is the one that is taken back
     pub dropped_held : (c d : Config W) → IsHeld (has t.used) c → d.owed ≡ c.owed → has c.owed reply ≡ false
@@ -319,11 +296,11 @@ module _ {W : ℕ} where
         at : (q : ℕ) → has t.used q ≡ true → slice_get t.calls.items q ≡ Some h.0 → has opened q ≡ true → ⊥
         at q u e b =
             let same : call_at t q ≡ h.0 = get_or_from_slice_get t.calls.items q h.0 0 e in
-            let s = both_parts (not (writes_at t.ops.items h.0)) (fits_at t.ops.items h.0 v) h.2 in
+            let s = and_parts (not (writes_at t.ops.items h.0)) (fits_at t.ops.items h.0 v) h.2 in
             let asked =
             asks q u (ap (λ x. fits_at t.ops.items x v) same ∙ s.1)
             (write_test t i q u
-            ∙ (ap (writes_at t.ops.items) same ∙ not_true (writes_at t.ops.items h.0) s.0)) in
+            ∙ (ap (writes_at t.ops.items) same ∙ not-true (writes_at t.ops.items h.0) s.0)) in
             false≢true (sym (none q b) ∙ asked)
 
   -- ---- some call of use takes effect, and of those that change alike the one that replies first

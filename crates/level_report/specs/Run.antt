@@ -4,20 +4,10 @@ use Rattle.std.specs.Io.KnownBytes.{Appends}
 use Rattle.reg_intake.specs.Ends.{IsAll}
 use Rattle.byte_ends.specs.Ends.{AppendsBeginning}
 use Rattle.reg_intake.specs.declared.refusal.Refusal.{Refusal}
-use Rattle.reg_intake.specs.declared.refusal.Refusal.TheVariants.{At, TooLong, InputFailed}
-use Rattle.reg_intake.specs.declared.refusal.Refusal.TheVariants.{NoRoom, OutputFailed}
 use Rattle.report_text.specs.declared.level.report.Required.{Required}
 use Rattle.level_report.specs.Answer.{IsAnswer, IsAnswerText, IsOutcome}
 use Rattle.level_report.specs.declared.outcome.Outcome.{Outcome}
 use Rattle.level_report.specs.declared.settings.Asked.{Asked}
-
--- a refusal of the input itself: no failure, and memory didn't run out
-abbrev pub IsOfInput : Refusal → Type 0
-IsOfInput (At r) = Unit {0}
-IsOfInput TooLong = Unit {0}
-IsOfInput InputFailed = ⊥
-IsOfInput NoRoom = ⊥
-IsOfInput OutputFailed = ⊥
 
 -- the answer to all the bytes that were left is a report: its bytes were taken, and the outcome says whether
 -- the same history kept what is required

@@ -6,7 +6,8 @@ ghost use Rattle.reg_intake.specs.Arena.{IsRefusedOf};
 ghost use Rattle.reg_intake.specs.Ends.{IsAll};
 ghost use Rattle.level_report.specs.Answer.{IsAnswerText, IsOutcome, IsAnswerOf};
 ghost use Rattle.level_report.specs.Registers.{AreLines};
-ghost use Rattle.level_report.specs.Run.{IsOfInput, IsRefusedWhole, Reports, ReportsBeginning, Tells};
+ghost use Rattle.reg_intake.specs.Refusals.{IsOfInput};
+ghost use Rattle.level_report.specs.Run.{IsRefusedWhole, Reports, ReportsBeginning, Tells};
 
 use crate::causal::causal_lines;
 use crate::outcome::{Outcome, outcome_for};

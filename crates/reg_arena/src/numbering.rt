@@ -1,6 +1,6 @@
 //! The numbers of registers, by the order of their first calls. Lines get them before their events are taken
 //! in, so that one thread can look up the names of the next lines while another takes in those before them.
-ghost use Rattle.std.specs.Prelude.{◌≡◌, [], ℕ, List, bytes_eq, flat_map, IfOk, OnOk, Some};
+ghost use Rattle.std.specs.Prelude.{◌≡◌, [], ℕ, List, bytes_eq, flat_map, length, IfOk, OnOk, Some};
 ghost use Rattle.std.specs.List.{position_or_len};
 ghost use Rattle.reg_arena.specs.Numbered.{AreNumbered, ArePartsNumbered, IsNumbered};
 ghost use Rattle.reg_arena.specs.Numbered.{lines_of, name_called, names_with, with_name};
@@ -42,6 +42,22 @@ impl Numbering {
         Numbering {
             names: IndexSet::with_hasher(alloc, Seeded::new(key)),
         }
+    }
+
+    /// How many names there are.
+    pub fn len(&self) -> usize
+        ensures { result ≡ length self.now }
+    {
+        self.names.len()
+    }
+
+    /// The names, in the order of their numbers.
+    ///
+    /// The error says that memory ran out.
+    pub fn into_names(self, alloc: Global) -> Result<Vec<Name>, AllocError>
+        ensures { IfOk result (λ names. names.items ≡ self) }
+    {
+        self.names.into_iter().collect(alloc)
     }
 
     /// Lines in parts, in order, with the numbers of the registers that they call.
@@ -103,7 +119,9 @@ impl Numbering {
     }
 
     /// The number of a name, which comes last if it is new.
-    fn number_name(&mut self, alloc: Global, name: &Name) -> Result<usize, AllocError>
+    ///
+    /// The error says that memory ran out.
+    pub fn number_name(&mut self, alloc: Global, name: &Name) -> Result<usize, AllocError>
         ensures number { IfOk result (λ n. n ≡ position_or_len (bytes_eq name.now) self.old) }
         ensures names { OnOk result (self.new ≡ with_name self.old (Some name.now)) }
     {

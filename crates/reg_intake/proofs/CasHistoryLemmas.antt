@@ -8,3 +8,4 @@ pub mod Timed
 pub mod Rows
 pub mod Taking
 pub mod Walking
+pub mod WholeInput

@@ -6,3 +6,4 @@ pub mod Kept
 pub mod Listed
 pub mod Taken
 pub mod Input
+pub mod Blocks

@@ -32,3 +32,11 @@ other_of TooLong = None
 other_of InputFailed = None
 other_of NoRoom = None
 other_of OutputFailed = None
+
+-- a refusal of the input itself: no failure, and memory didn't run out
+abbrev pub IsOfInput : Refusal → Type 0
+IsOfInput (At r) = Unit {0}
+IsOfInput TooLong = Unit {0}
+IsOfInput InputFailed = ⊥
+IsOfInput NoRoom = ⊥
+IsOfInput OutputFailed = ⊥

@@ -8,7 +8,7 @@ use std::random::RandomSource;
 /// How many bytes a block has if several processors share the work: enough that its lines are read by the
 /// time those before them are taken in, even if the thread that reads them starts late, and few enough that
 /// they take little memory.
-const BLOCK: usize = 1_572_864;
+pub(crate) const BLOCK: usize = 1_572_864;
 
 /// How many bytes a block has after a block's worth without a line feed: more, since all of it is looked
 /// through each time, but few enough that as many short lines after a long one take little memory.

@@ -3,7 +3,7 @@ use Rattle.std.proofs.Common.{◌≡◌, ℕ, ◌+◌, ◌-◌, ◌≤◌, ◌&&
 use Rattle.std.proofs.Common.{List, [], ◌∷◌, length, slice_get, Some, inl, inr}
 use Rattle.std.proofs.Common.{refl, sym, ap, ◌∙◌, arith}
 use Rattle.std.specs.List.{count_by}
-use Rattle.std.proofs.lemmas.Bool.{and_parts, false≢true, lt-ltb, ltb-false, ltb-true}
+use Rattle.std.proofs.lemmas.Bool.{and_parts, false≢true, not-true, lt-ltb, ltb-false, ltb-true}
 use Rattle.std.proofs.lemmas.List.Sums.{sum_by-cons}
 use Rattle.std.proofs.lemmas.Option.{slice_get_within}
 use Rattle.history_text.specs.declared.event.OpKind.{OpKind}
@@ -117,14 +117,10 @@ module _ (h : History) (rec : IsRecorded h) (r : ℕ) where
       let y =
       operation-has-reply h rec o x.1.process (of_register-In r (operations h) o (In-called h r o i)).0
       x.2.process parts.1 in
-      let kind = read-kind (op_kind o) (sym (changes-kind o.act) ∙ no-write (is_write o) parts.0) in
+      let kind = read-kind (op_kind o) (sym (changes-kind o.act) ∙ not-true (is_write o) parts.0) in
       let what : y.0.what ≡ Reply ReadOp = y.2 ∙ ap Reply kind in
       let late = (y.1.reply y.2).1 in
       (y.0, y.1, what, omega (arith, late))
-    where
-      no-write : (b : Bool) → not b ≡ true → b ≡ false
-      no-write true q = absurd (false≢true q)
-      no-write false q = refl
 
   -- before the first event none has replied
   pub none-answered : count_by (answered 0) (of_register r (calls h.events)) ≡ 0

@@ -1,5 +1,6 @@
 -- What the guarantees of sessions ask of two operations, case by case.
 use Rattle.std.proofs.Common.{◌≡◌, ℕ, ◌<◌, Bool, true, false, not, Some, None, ◌⊎◌, inl, inr, refl, ap}
+use Rattle.std.proofs.lemmas.Bool.{not-true}
 use Rattle.history_model.specs.Legal.{MustKeep}
 use Rattle.history_model.specs.Operations.{IsWrite, Precedes, is_write}
 use Rattle.history_model.specs.declared.guarantee.Guarantee.{Guarantee}
@@ -7,10 +8,6 @@ use Rattle.history_model.specs.declared.guarantee.Guarantee.TheVariants.{Atomic,
 use Rattle.history_model.specs.declared.guarantee.Guarantee.TheVariants.{Monotonic, Sequential, Within}
 use Rattle.history_model.specs.declared.operation.Operation.{Operation}
 use Rattle.reg_levels.specs.Levels.{IsOfSessions, is_lasting, keeps_time}
-
-not-true : (b : Bool) → not b ≡ true → b ≡ false
-not-true true e = absurd (cc e)
-not-true false e = refl
 
 -- what lasts must come before what its session calls later
 pub keep_lasting : (g : Guarantee) → IsOfSessions g → (a b : Operation) (q : ℕ) → Precedes a b

@@ -4,7 +4,7 @@ use Rattle.std.proofs.Common.{slice_get, drop, take, Option, Some, None}
 use Rattle.std.proofs.Common.{Bool, true, false, cond, not, All, ◌⊎◌, inl, inr, refl, sym, ap, ◌∙◌, subst}
 use Rattle.std.proofs.Common.{arith, append_assoc, append-nil, get_or}
 use Rattle.std.specs.List.{cons_option, filter, filter_map}
-use Rattle.std.proofs.lemmas.Bool.{and_from, and_parts, cases_Bool, cases_order}
+use Rattle.std.proofs.lemmas.Bool.{and_from, and_parts, cases_Bool, cases_order, not-true}
 use Rattle.std.proofs.lemmas.List.{length-set, take_more}
 use Rattle.std.proofs.lemmas.List.Elements.{filter_map-append}
 use Rattle.std.proofs.lemmas.Option.{slice_get_within}
@@ -75,17 +75,13 @@ first_read_on ops w a p q at is h = record {
 
 -- ---- which operations are reads of a cluster
 
-not-false : (b : Bool) → not b ≡ true → b ≡ false
-not-false true e = absurd (cc e)
-not-false false e = refl
-
 -- what the test says
 reads-value : (w r : Operation) → is_read_of w r ≡ true
     → (is_write r ≡ false) × (r.completed ≡ true) × (value_of r ≡ value_of w)
 reads-value w r t =
     let p = and_parts (is_completed_read r) (same_value (value_of r) (value_of w)) t in
     let q = and_parts (not (is_write r)) r.completed p.0 in
-    (not-false (is_write r) q.0, q.1, same-true (value_of r) (value_of w) p.1)
+    (not-true (is_write r) q.0, q.1, same-true (value_of r) (value_of w) p.1)
 
 value-reads : (w r : Operation) → is_write r ≡ false → r.completed ≡ true → value_of r ≡ value_of w
     → is_read_of w r ≡ true

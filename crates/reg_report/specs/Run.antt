@@ -12,16 +12,6 @@ use Rattle.reg_report.specs.Answer.{IsAnswer, IsAnswerText}
 use Rattle.reg_report.specs.declared.outcome.Outcome.{Outcome}
 use Rattle.reg_report.specs.declared.outcome.Outcome.TheVariants.{Atomic, NotAtomic}
 use Rattle.reg_intake.specs.declared.refusal.Refusal.{Refusal}
-use Rattle.reg_intake.specs.declared.refusal.Refusal.TheVariants.{At, TooLong, InputFailed}
-use Rattle.reg_intake.specs.declared.refusal.Refusal.TheVariants.{NoRoom, OutputFailed}
-
--- a refusal of the input itself: no failure, and memory didn't run out
-abbrev pub IsOfInput : Refusal → Type 0
-IsOfInput (At r) = Unit {0}
-IsOfInput TooLong = Unit {0}
-IsOfInput InputFailed = ⊥
-IsOfInput NoRoom = ⊥
-IsOfInput OutputFailed = ⊥
 
 -- the answer to all the bytes that were left is a report: its bytes were taken, and it has this outcome
 abbrev pub Reports : Bool → Option (List ℕ) → Option (List ℕ) → Option (List ℕ) → Outcome → Type 0

@@ -2,7 +2,8 @@
 ghost use Rattle.std.specs.Prelude.{◌≡◌, ◌≢◌, ◌⊎◌, ◌-◌, ◌^◌, ◌<◌, ◌↔◌, length};
 ghost use Rattle.std.specs.Prelude.{Err, IfOk, OnOk, IfErr, IfSome};
 ghost use Rattle.history_text.specs.declared.limits.TheConstants.{MAX_INPUT};
-ghost use Rattle.reg_report.specs.Run.{IsOfInput, IsRefusedWhole, Reports, ReportsBeginning, TellsAtomic};
+ghost use Rattle.reg_intake.specs.Refusals.{IsOfInput};
+ghost use Rattle.reg_report.specs.Run.{IsRefusedWhole, Reports, ReportsBeginning, TellsAtomic};
 
 use crate::outcome::Outcome;
 use crate::pieces::{Gate, Settings};

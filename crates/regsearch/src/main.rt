@@ -12,13 +12,14 @@ use ending::ending_of;
 use search_report::{FromReader, FromWriter, Refusal, Settings, Source, run};
 use std::io;
 use std::process::ExitCode;
+use std::random::RandomSource;
 use std::rt::{Env, Files};
 use std::thread::Threads;
 use words::{Words, read_words};
 
 /// Reports what the source has to standard output.
 fn report<S: Source>(
-    rt: &(impl Threads + Sync + Print + Eprint + AllocGlobal),
+    rt: &(impl Threads + RandomSource + Sync + Print + Eprint + AllocGlobal),
     source: &mut S,
     settings: Settings,
 ) -> Ended
@@ -33,7 +34,7 @@ fn report<S: Source>(
 
 /// Reports the history that the words name.
 fn history(
-    rt: &(impl Threads + Sync + Files + Input + Print + Eprint + AllocGlobal),
+    rt: &(impl Threads + RandomSource + Sync + Files + Input + Print + Eprint + AllocGlobal),
     words: &Words,
 ) -> Ended {
     let Some(path) = &words.file else {

@@ -5,20 +5,10 @@ use Rattle.history_model.specs.Table.{events_of}
 use Rattle.reg_intake.specs.Ends.{IsAll}
 use Rattle.reg_intake.specs.CasHistory.Input.{history_lines}
 use Rattle.reg_intake.specs.declared.refusal.Refusal.{Refusal}
-use Rattle.reg_intake.specs.declared.refusal.Refusal.TheVariants.{At, TooLong, InputFailed}
-use Rattle.reg_intake.specs.declared.refusal.Refusal.TheVariants.{NoRoom, OutputFailed}
 use Rattle.search_report.specs.Answer.{IsAnswer, IsAnswerText}
 use Rattle.byte_ends.specs.Ends.{AppendsBeginning}
 use Rattle.search_report.specs.Meaning.{IsWholeOutcome}
 use Rattle.report_text.specs.declared.search.report.Outcome.{Outcome}
-
--- a refusal of the input itself, and not of a failure or of memory
-abbrev pub IsOfInput : Refusal → Type 0
-IsOfInput (At r) = Unit {0}
-IsOfInput TooLong = Unit {0}
-IsOfInput InputFailed = ⊥
-IsOfInput NoRoom = ⊥
-IsOfInput OutputFailed = ⊥
 
 -- the answer to all the bytes that were left is a report: its bytes were
 -- taken, and it says this of the whole history

@@ -9,7 +9,7 @@ ghost use Rattle.search_report.specs.Meaning.{IsWholeOutcome};
 use crate::history::report_alone;
 use history_text::MAX_INPUT;
 use reg_intake::Refusal;
-use reg_intake::cas_history::history_in;
+use reg_intake::cas_history::history_alone;
 use register_search::Bounds;
 use report_text::search::Report;
 use std::alloc::Global;
@@ -35,6 +35,6 @@ pub fn check_alone(alloc: Global, input: &[u8], bounds: Bounds) -> Result<Report
     if input.len() > MAX_INPUT {
         return Err(Refusal::TooLong);
     }
-    let history = history_in(alloc, input)?;
+    let history = history_alone(alloc, input)?;
     Ok(report_alone(alloc, &history, bounds)?)
 }

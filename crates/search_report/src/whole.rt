@@ -5,7 +5,8 @@ ghost use Rattle.history_text.specs.declared.limits.TheConstants.{MAX_INPUT};
 ghost use Rattle.reg_intake.specs.Ends.{IsAll};
 ghost use Rattle.reg_intake.specs.CasHistory.Input.{IsRefusedOf};
 ghost use Rattle.search_report.specs.Answer.{IsAnswerText};
-ghost use Rattle.search_report.specs.Run.{IsOfInput, IsRefusedWhole, Reports, ReportsBeginning, TellsAtomic};
+ghost use Rattle.reg_intake.specs.Refusals.{IsOfInput};
+ghost use Rattle.search_report.specs.Run.{IsRefusedWhole, Reports, ReportsBeginning, TellsAtomic};
 
 use crate::history::report;
 use crate::settings::Settings;
@@ -14,11 +15,12 @@ use reg_intake::Refusal;
 use reg_intake::cas_history::history_of;
 use report_text::search::{Outcome, text};
 use std::alloc::Global;
+use std::random::RandomSource;
 use std::thread::Threads;
 
 /// The bytes of a report of all the bytes that the source has left, and what it says of
 /// the whole history; or why there is none.
-fn answered<T: Threads + Sync, R: Source>(
+fn answered<T: Threads + RandomSource + Sync, R: Source>(
     rt: &T,
     alloc: Global,
     source: &mut R,
@@ -30,7 +32,7 @@ fn answered<T: Threads + Sync, R: Source>(
     ensures unfailed { IfOk result (λ _. R.failed source.new ≡ R.failed source.old) }
     ensures err { IfErr result (IsRefusedOf (R.left source.old) (R.failed source.old) (R.failed source.new)) }
 {
-    let history = history_of(alloc, source)?;
+    let history = history_of(rt, alloc, source)?;
     let report = report(rt, alloc, &history, settings)?;
     let bytes = text(alloc, &report)?;
     Ok((bytes, report.atomic))
@@ -48,7 +50,7 @@ fn answered<T: Threads + Sync, R: Source>(
 /// - `NoRoom`: memory ran out.
 /// - `OutputFailed`: a push or the flush failed, and a beginning of the report is
 ///   out. It is answered for no other reason.
-pub fn run<T: Threads + Sync, R: Source, W: Sink>(
+pub fn run<T: Threads + RandomSource + Sync, R: Source, W: Sink>(
     rt: &T,
     alloc: Global,
     source: &mut R,

@@ -40,28 +40,40 @@ def ended(operation: SourceOperation, told: Members, said: dict[bool, int],
     in a whole output of the model, and if no read or write has true, since it may say that the operation
     failed. `said` keeps the lines where reads and writes have either.
     """
-    for name in _TOLD:
-        if name in told and type(told[name]) is not bool:
-            raise Refused(f"{name.capitalize()} is {spelled(told[name])[:40]}, and true or false is "
-                          "expected", line)
+    _refuse_others(told, line)
     if told.get("unknown"):
         return None, told
     if told.get("exists") and operation.kind not in READS:
         raise Refused(f"Exists is true, and only a read has found a value: this is a {operation.kind}", line)
     if operation.kind == CAS:
         return "reply", told
+    _refuse_ok(operation.kind, told, said, line)
+    return "reply", _found(told, line) if operation.kind in READS else told
+
+
+def _refuse_others(told: Members, line: int) -> None:
+    """Raises Refused for a member that isn't true or false, and has to be."""
+    for name in _TOLD:
+        if name in told and type(told[name]) is not bool:
+            raise Refused(f"{name.capitalize()} is {spelled(told[name])[:40]}, and true or false is "
+                          "expected", line)
+
+
+def _refuse_ok(kind: str, told: Members, said: dict[bool, int], line: int) -> None:
+    """Raises Refused if Ok may say that a read or a write failed."""
     if "ok" in told:
         said.setdefault(told["ok"], line)
     if told.get("ok") is False and not all(name in told for name in _TOLD) or len(said) == 2:
         either = "false" if len(said) < 2 else f"true at line {said[True]} and false at line {said[False]}"
-        raise Refused(f"Ok is {either}, and this is a {operation.kind}: say --ok-when Ok=true if it took "
-                      "place only then", line)
-    if operation.kind in READS:
-        if "exists" not in told or (told["exists"] and "value" not in told):
-            raise Refused("the output of a read has Exists, true or false, and Value", line)
-        if not told["exists"] and told.get("value") not in (None, 0):
-            raise Refused(f"Exists is false, and Value is {spelled(told['value'])[:40]}: did the read find "
-                          "it?",
-                          line)
-        return "reply", {"value": told["value"] if told["exists"] else None}
-    return "reply", told
+        raise Refused(f"Ok is {either}, and this is a {kind}: say --ok-when Ok=true if it took place only "
+                      "then", line)
+
+
+def _found(told: Members, line: int) -> Members:
+    """The value that a read found, or null."""
+    if "exists" not in told or (told["exists"] and "value" not in told):
+        raise Refused("the output of a read has Exists, true or false, and Value", line)
+    if not told["exists"] and told.get("value") not in (None, 0):
+        raise Refused(f"Exists is false, and Value is {spelled(told['value'])[:40]}: did the read find it?",
+                      line)
+    return {"value": told["value"] if told["exists"] else None}

@@ -96,45 +96,40 @@ class Rows:
         return row._replace(output=ABSENT) if kind in WRITES and is_done else row
 
     def _take_version(self, operation: SourceOperation, row: Row, found_nothing: bool) -> None:
-        """The version that a put asks for, or that a read found. To create is to put by version 0.
-
-        A read that found no value needn't have one.
-        """
+        """The version that an operation asks for or found, and the one that it was answered."""
         member = self.choices.versions or ""
-        given = _or_nothing(row.members.get(member))
-        if self.is_csv:
-            given = settled(given, frozenset(), True)
+        given = self._version_in(member, row)
         if operation.kind in READS and operation.ending == "reply" and not found_nothing:
-            if given is not None or "value" in self.choices.ignored:
-                operation.version = versions.found(given, member, row.line)
+            self._take_found_version(operation, given, row.line)
         elif operation.kind in WRITES or operation.kind == CREATE:
-            is_blind = given is None and operation.kind != CREATE and self.choices.new_revisions is not None
-            if not is_blind:
-                operation.version = versions.asked(
-                    0 if operation.kind == CREATE and given is None else given, member, row.line)
-            operation.kind = "write"
-            if operation.ending == "reply" and not self._says_ok(row):
-                raise Refused("the row of a put by version doesn't say whether it took place: write ok, "
-                              "missed, fail or unknown as its outcome", row.line)
-            operation.told_version = self._told_version(operation, row)
+            self._take_put(operation, given, row)
         elif operation.kind == DELETE_IF:
             operation.version = versions.asked(given, member, row.line)
-            operation.told_version = self._told_version(operation, row)
-        elif given is not None and operation.kind in DELETES:
-            raise Refused(f"a {operation.kind} has the version {spelled(given)[:40]}: say --ops "
-                          f"WORD={DELETE_IF} if it deletes this version alone, or leave the version out",
-                          row.line)
         elif operation.kind in DELETES:
-            operation.told_version = self._told_version(operation, row)
+            _refuse_version(operation.kind, given, row.line)
+        if operation.kind in WRITES | DELETES | {DELETE_IF} and self.choices.new_revisions is not None:
+            told = self._version_in(self.choices.new_revisions, row)
+            operation.told_version = versions.told(told, operation.version or 0, operation.ending,
+                                                   self.choices, row.line)
 
-    def _told_version(self, put: SourceOperation, row: Row) -> Optional[int]:
-        """The version that a put is answered, in a member of its own."""
-        if self.choices.new_revisions is None:
-            return None
-        given = _or_nothing(row.members.get(self.choices.new_revisions))
-        if self.is_csv:
-            given = settled(given, frozenset(), True)
-        return versions.told(given, put.version or 0, put.ending, self.choices, row.line)
+    def _version_in(self, member: str, row: Row) -> Any:
+        given = _or_nothing(row.members.get(member))
+        return settled(given, frozenset(), True) if self.is_csv else given
+
+    def _take_found_version(self, read: SourceOperation, given: Any, line: int) -> None:
+        """The version that a read found. One that found no value needn't have any."""
+        if given is not None or "value" in self.choices.ignored:
+            read.version = versions.found(given, self.choices.versions or "", line)
+
+    def _take_put(self, put: SourceOperation, given: Any, row: Row) -> None:
+        """The version that a put asks for: perhaps none with new_revisions. To create is to ask for 0."""
+        asked = 0 if put.kind == CREATE and given is None else given
+        if asked is not None or self.choices.new_revisions is None:
+            put.version = versions.asked(asked, self.choices.versions or "", row.line)
+        put.kind = "write"
+        if put.ending == "reply" and not self._says_ok(row):
+            raise Refused("the row of a put by version doesn't say whether it took place: write ok, "
+                          "missed, fail or unknown as its outcome", row.line)
 
     def _take_values(self, operation: SourceOperation, row: Row, found_nothing: bool) -> None:
         """What a read or a write asked, and what it was answered."""
@@ -170,7 +165,8 @@ class Rows:
                 raise Refused(f"{row.used.name(said[0][0])} is {spelled(said[0][1])[:40]} and "
                               f"{row.used.name(column)} {spelled(value)[:40]}: say with --ignore-member "
                               "which of them means nothing", row.line)
-        return said[0][1] if said else values[0][1] if values else ABSENT
+        found = said or values
+        return found[0][1] if found else ABSENT
 
     def _refuse_unused(self, row: Row, column: str, used: list[Any]) -> None:
         """Raises Refused for a value that isn't used, unless it is one of those that are."""
@@ -294,6 +290,13 @@ class Rows:
         source.notes.extend(self.outcomes.notes())
         settle(source, self.choices)
         return source
+
+
+def _refuse_version(kind: str, given: Any, line: int) -> None:
+    """Raises Refused if a delete that asks for no version has one."""
+    if given is not None:
+        raise Refused(f"a {kind} has the version {spelled(given)[:40]}: say --ops WORD={DELETE_IF} if it "
+                      "deletes this version alone, or leave the version out", line)
 
 
 def _or_none(value: Any) -> Any:

@@ -77,13 +77,18 @@ def _refuse_suspect(read: SourceOperation, found: Value, spellings: "_Spellings"
     if why is None and choices.values != "exact":
         why = spellings.why(read.key, found, choices)
     if why is not None:
-        kind = ("read gave" if read.kind == "read" else f"{read.kind} found" if read.ending == "reply"
-                else "cas asks for")
         which = f", which nothing writes to {shown(read.key)}"
-        if spellings.has(read.key, found):
-            which = " of " + shown(read.key) if spellings.has_twin(read.key, found) else which + " before"
-        what = f"a {kind} {edn.write(value)[:40]}{which}"
-        raise Refused(f"{what}: {why}", read.end_line or read.line)
+        if spellings.has_twin(read.key, found):
+            which = f" of {shown(read.key)}"
+        elif spellings.has(read.key, found):
+            which += " before"
+        raise Refused(f"a {_deed(read)} {edn.write(value)[:40]}{which}: {why}", read.end_line or read.line)
+
+
+def _deed(operation: SourceOperation) -> str:
+    if operation.kind == "read":
+        return "read gave"
+    return f"{operation.kind} found" if operation.ending == "reply" else "cas asks for"
 
 
 def spells_null(value: Any, choices: Choices) -> Optional[str]:
@@ -185,7 +190,8 @@ def _is_collection(value: Any) -> bool:
 def _parts(value: Any) -> set[str]:
     """How what is in a collection is spelled, at any depth; of any other value, how it is spelled itself."""
     whole = _whole(value)
-    inner = whole.values() if isinstance(whole, dict) else whole if isinstance(whole, tuple) else None
-    if inner is None:
-        return {bare(value)} if value is not None else set()
-    return {part for each in inner for part in _parts(each)}
+    if isinstance(whole, dict):
+        whole = tuple(whole.values())
+    if isinstance(whole, tuple):
+        return {part for each in whole for part in _parts(each)}
+    return set() if value is None else {bare(value)}

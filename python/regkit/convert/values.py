@@ -138,4 +138,6 @@ def repeats(operations: Iterable[SourceOperation]) -> bool:
 
 def shown(value: Value) -> str:
     """A value of the source for a person, a text without its quotes."""
-    return _unquoted(value) if isinstance(value, str) else "null" if value is None else str(value)
+    if value is None:
+        return "null"
+    return _unquoted(value) if isinstance(value, str) else str(value)

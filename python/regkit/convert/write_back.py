@@ -14,7 +14,7 @@ from regkit.convert.columns import PLAIN_COLUMNS, WRITTEN
 from regkit.convert.values import unsettled
 
 _TYPES = {"reply": ":ok", "fail": ":fail", "crash": ":info"}
-_TRUTHS = {True: "true", False: "false"}
+_EDN = {True: "true", False: "false", None: "nil"}
 _OK = {True: "true", False: "false", None: ""}
 _FUNCTIONS = {"read": "get", "write": "put", CAS: CAS}
 _OUTCOMES = {"reply": "ok", "fail": "fail", "crash": "unknown", None: "unknown"}
@@ -22,30 +22,42 @@ _OUTCOMES = {"reply": "ok", "fail": "fail", "crash": "unknown", None: "unknown"}
 
 def _word_of(step: SourceOperation) -> str:
     """The word for an operation that says what its reply tells. Raises Refused if there is none."""
-    if step.kind == "read":
-        return "read" if step.found is None else EXISTS
-    if step.kind == DELETE:
-        return FETCH_DELETE if step.tells_old else DELETE if step.found is None else COUNT_DELETE
-    is_replace = step.unless and step.expected is None and not step.clears
-    if step.kind == CAS and not step.tells_old and is_replace == step.unless:
-        return REPLACE if is_replace else DELETE_IF if step.clears else CAS
     if step.kind == "write":
         return "write"
+    if step.kind == "read":
+        return "read" if step.found is None else EXISTS
+    if step.kind == DELETE and step.tells_old:
+        return FETCH_DELETE
+    if step.kind == DELETE:
+        return DELETE if step.found is None else COUNT_DELETE
+    is_plain = step.kind == CAS and not step.tells_old
+    if is_plain and not step.unless:
+        return DELETE_IF if step.clears else CAS
+    if is_plain and step.expected is None and not step.clears:
+        return REPLACE
     raise Refused(f"a {step.kind} {'unless a value' if step.unless else 'that tells what was there'} has no "
                   "word in this form: leave out --to", step.line)
 
 
 def _value_of(step: SourceOperation) -> Any:
     """The one value of an operation: what it asks for or writes, or what its reply tells."""
-    if step.kind == DELETE or (step.kind == "read" and step.found is not None):
-        if step.kind == DELETE and step.found is not None:
-            return int(step.found)  # how many values there were
-        return step.old if step.kind == DELETE else step.found
+    if step.kind == DELETE:
+        return step.old if step.found is None else int(step.found)  # how many values there were
+    if step.kind == "read" and step.found is not None:
+        return step.found
     return step.expected if step.clears else step.value
 
 
 def _edn_value(value: Value) -> str:
-    return _TRUTHS[value] if type(value) is bool else "nil" if value is None else str(value)
+    return _EDN[value] if value is None or type(value) is bool else str(value)
+
+
+def _type_of(step: SourceOperation, is_call: bool) -> str:
+    if step.kind == "crash":
+        return ":info"
+    if is_call:
+        return ":invoke"
+    return ":fail" if step.kind == CAS and step.missed else _TYPES[step.ending or ""]
 
 
 def _events(source: Source, shown: Callable[[Value], str]) -> Iterator[tuple[SourceOperation, str, str, str]]:
@@ -55,11 +67,11 @@ def _events(source: Source, shown: Callable[[Value], str]) -> Iterator[tuple[Sou
     `--failed-cas missed` tells the two apart.
     """
     for step, is_call in source.moments():
-        kind = ":info" if step.kind == "crash" else ":invoke" if is_call else _TYPES[step.ending or ""]
+        kind = _type_of(step, is_call)
         if step.kind == CAS:
             failed = not is_call and step.ending == "fail"
             is_pair = _word_of(step) == CAS
-            yield (step, ":fail" if step.missed and not is_call else kind,
+            yield (step, kind,
                    f"[{shown(step.expected)} {shown(step.value)}]" if is_pair else shown(_value_of(step)),
                    ", :error :no-effect" if failed else "")
         else:
@@ -94,8 +106,9 @@ def _edn_text(value: Value) -> str:
 def _plain(value: Value) -> str:
     """A key or a value as a text: a text is itself."""
     found = unsettled(value)
-    return found if type(found) is str else "" if found is None else _edn_value(found) if (
-        type(found) is bool) else edn.write(found)
+    if found is None or type(found) is bool:
+        return _OK[found]
+    return found if type(found) is str else edn.write(found)
 
 
 def _rows(source: Source) -> list[list[Any]]:

@@ -16,17 +16,19 @@ pub struct HashKey {
 }
 
 impl HashKey {
-    /// Two words of the system's random bytes; if the system gives none, a digest of the input's bytes. A
-    /// change to any of them almost surely changes the digest.
+    /// Two words of the system's random bytes; if the system gives none, a digest of the input's bytes.
     pub fn drawn(rt: &impl RandomSource, input: &[u8]) -> Self {
         match (random_word(rt), random_word(rt)) {
             (Ok(first), Ok(second)) => HashKey { first, second },
-            _ => {
-                let mut state = DefaultHasher::new();
-                input.hash(&mut state);
-                HashKey::ended(state)
-            }
+            _ => HashKey::of_bytes(input),
         }
+    }
+
+    /// A digest of these bytes. A change to any of them almost surely changes it.
+    pub fn of_bytes(input: &[u8]) -> Self {
+        let mut state = DefaultHasher::new();
+        input.hash(&mut state);
+        HashKey::ended(state)
     }
 
     /// A digest of all events. It reads the process, the kind and the value of each, and the name

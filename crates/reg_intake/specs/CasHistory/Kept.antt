@@ -1,13 +1,13 @@
--- What the code keeps beside a list of events or of names, to find in it.
-use Rattle.std.specs.Prelude.{◌≡◌, ℕ, ◌+◌, ◌<◌, ◌≤◌, List, [], ◌∷◌, ◌++◌, drop, length, set, slice_get}
-use Rattle.std.specs.Prelude.{bytes_eq, cond, nat_lt, unwrap_or}
+-- What the code keeps beside a list of events, to find in it, and the names that events call.
+use Rattle.std.specs.Prelude.{◌≡◌, ℕ, ◌+◌, ◌<◌, ◌≤◌, List, [], ◌∷◌, drop, length, set, slice_get}
+use Rattle.std.specs.Prelude.{cond}
 use Rattle.std.specs.Prelude.{Option, Some, None, option_map, option_and_then}
-use Rattle.std.specs.List.{position_or_len}
 use Rattle.history_text.specs.declared.limits.TheConstants.{MAX_EVENTS}
 use Rattle.history_text.specs.declared.event.AnyEvent.{AnyEvent}
 use Rattle.history_model.specs.declared.operation.Operation.{Operation}
 use Rattle.history_model.specs.Calls.{Calls, begins, next_of, operation, reply_in}
 use Rattle.history_model.specs.Table.{last_event}
+use Rattle.reg_arena.specs.Numbered.{with_name}
 use Rattle.reg_intake.specs.CasHistory.Events.{Called, any_form, called_by}
 use Rattle.reg_intake.specs.CasHistory.History.{any_calls}
 
@@ -52,20 +52,6 @@ abbrev pub option_list : Option Operation → List Operation
 option_list None = []
 option_list (Some a) = a ∷ []
 
--- The place of each name, if it is among them.
-pub record AreNumbered (names : List (List ℕ)) (number : List ℕ → Option ℕ) : Type 0 where
-  pub place : (name : List ℕ) → unwrap_or (number name) (length names) ≡ position_or_len (bytes_eq name) names
-  pub within : (name : List ℕ) (n : ℕ) → number name ≡ Some n → n < length names
-
--- the names with one more, which comes last if it is new
-abbrev pub with_name : List (List ℕ) → List ℕ → List (List ℕ)
-with_name names name =
-    cond (nat_lt (position_or_len (bytes_eq name) names) (length names)) names (names ++ name ∷ [])
-
-abbrev pub with_called : List (List ℕ) → Option Called → List (List ℕ)
-with_called names None = names
-with_called names (Some call) = with_name names call.register
-
--- the names with that of the register that an event calls
-abbrev pub names_with : List (List ℕ) → AnyEvent → List (List ℕ)
-names_with names e = with_called names (called_by e.kind)
+-- the names with that of the register that an event calls, which comes last if it is new
+abbrev pub with_called : List (List ℕ) → AnyEvent → List (List ℕ)
+with_called names e = with_name names (option_map (λ (call : Called). call.register) (called_by e.kind))

@@ -1,11 +1,12 @@
 -- The operations that are listed for each register, while events are gone through.
-use Rattle.std.specs.Prelude.{◌≡◌, ℕ, ◌+◌, List, [], ◌++◌, length, slice_get, Vec, Option, Some, None}
+use Rattle.std.specs.Prelude.{◌≡◌, ℕ, ◌+◌, List, [], ◌++◌, length, map, slice_get, Vec, Option, Some, None}
 use Rattle.std.specs.Global.{Global}
 use Rattle.history_text.specs.declared.event.AnyEvent.{AnyEvent}
+use Rattle.history_text.specs.declared.event.OpWord.{OpWord}
 use Rattle.history_model.specs.declared.operation.Operation.{Operation}
 use Rattle.history_model.specs.Operations.{of_register}
 use Rattle.reg_intake.specs.declared.cas_history.registers.Registers.{Registers}
-use Rattle.reg_intake.specs.CasHistory.History.{calls, calls_of, register_names}
+use Rattle.reg_intake.specs.CasHistory.History.{call_word, calls, calls_of, register_names}
 use Rattle.reg_intake.specs.CasHistory.Kept.{option_list}
 
 abbrev pub items_of : Option (Vec Operation Global) → List Operation
@@ -28,3 +29,8 @@ pub record IsHistoryBy (events : List AnyEvent) (registers : Registers) : Type 0
   pub whole : length registers.operations.items ≡ length registers.naming
   pub each : (r : ℕ) → listed registers.operations.items r ≡ calls_of events r
   pub count : registers.count ≡ length (calls events)
+
+-- the lines of some events, and the words of the calls among them
+abbrev pub AreLinesAndWords : List AnyEvent → Vec ℕ Global × Vec (Option OpWord) Global → Type 0
+AreLinesAndWords events lists =
+    (lists.0.items ≡ map (λ e. e.line) events) × (lists.1.items ≡ map call_word events)

@@ -1,21 +1,14 @@
--- Lines that are read and taken in one after another.
-use Rattle.std.specs.Prelude.{◌≡◌, ℕ, List, [], ◌∷◌, if◌then◌else◌}
-use Rattle.history_text.specs.Lines.{is_blank}
-use Rattle.history_text.specs.Reading.{event_reading}
+-- Lines that are taken in one after another.
+use Rattle.std.specs.Prelude.{◌≡◌, ◌++◌, List, Vec, flat_map}
+use Rattle.std.specs.Global.{Global}
 use Rattle.history_text.specs.declared.event.AnyEvent.{AnyEvent}
-use Rattle.history_text.specs.declared.event.Operations.TheVariants.{WithCas}
-use Rattle.history_text.specs.declared.line.LineError.{LineError}
-use Rattle.history_text.specs.declared.line.LineError.TheVariants as line_error
-use Rattle.history_model.specs.Table.{events_of}
-use Rattle.history_model.specs.Table.{IsBuildError}
-use Rattle.reg_intake.specs.CasHistory.Refusals.{Line, IsWellFormed, any_rules}
+use Rattle.history_model.specs.Table.{IsBuildError, events_of}
 use Rattle.history_model.specs.declared.refusal.BuildError.{BuildError}
-use Rattle.history_model.specs.declared.refusal.BuildError.TheVariants.{Refused, Memory}
-use Rattle.history_model.specs.declared.refusal.Reason.TheVariants.{Faulty}
+use Rattle.reg_intake.specs.CasHistory.Refusals.{Line, IsWellFormed, any_rules}
 
--- what line `n` means, unless it is blank
-abbrev pub read_line : ℕ → List ℕ → List Line
-read_line n bytes = if is_blank bytes then [] else event_reading WithCas n bytes ∷ []
+-- the lines that were read in parts, in order
+abbrev pub read_in : List (Vec Line Global) → List Line
+read_in parts = flat_map (λ part. part.items) parts
 
 -- none of the lines is faulty, and these are their events
 pub record AreTaken (lines : List Line) (events : List AnyEvent) : Type 0 where
@@ -26,7 +19,11 @@ pub record AreTaken (lines : List Line) (events : List AnyEvent) : Type 0 where
 abbrev pub IsNoHistory : List Line → BuildError → Type 0
 IsNoHistory lines error = IsBuildError any_rules lines error
 
--- why there is no history of lines of which one has no event
-abbrev pub of_event : LineError → BuildError
-of_event (line_error.Fault fault) = Refused (record { line = fault.line; reason = Faulty fault.kind })
-of_event line_error.Memory = Memory
+-- the lines are taken in behind any whose events these are
+abbrev pub Takes : List Line → List AnyEvent → List AnyEvent → Type 0
+Takes lines old new = (done : List Line) → AreTaken done old → AreTaken (done ++ lines) new
+
+-- one of the lines isn't, so there is no history, whatever stands behind them
+abbrev pub Refuses : List Line → List AnyEvent → BuildError → Type 0
+Refuses lines old error =
+    (done after : List Line) → AreTaken done old → IsNoHistory (done ++ (lines ++ after)) error

@@ -1,10 +1,13 @@
 //! The events of the lines so far.
-ghost use Rattle.std.specs.Prelude.{◌≡◌, ◌<◌, ◌++◌, ◌∷◌, [], None, IfErr, IfOk, IfSome, OnErr, OnOk, length};
+ghost use Rattle.std.specs.Prelude.{◌≡◌, ◌<◌, ◌≤◌, ◌++◌, ◌∷◌, List, [], None, IfErr, IfOk, IfSome, OnErr};
+ghost use Rattle.std.specs.Prelude.{OnOk, length};
 ghost use Rattle.std.specs.Option.{option_copied};
 ghost use Rattle.history_model.specs.Table.{last_event};
 ghost use Rattle.reg_intake.specs.CasHistory.Events.{any_form};
 ghost use Rattle.reg_intake.specs.CasHistory.History.{IsHistoryOf};
-ghost use Rattle.reg_intake.specs.CasHistory.Kept.{linked_from};
+ghost use Rattle.history_text.specs.declared.event.AnyEvent.{AnyEvent as AnEvent};
+ghost use Rattle.reg_intake.specs.CasHistory.Kept.{AreLinked, linked_from};
+ghost use Rattle.reg_intake.specs.CasHistory.Listed.{AreLinesAndWords, IsHistoryBy};
 ghost use Rattle.reg_intake.specs.CasHistory.Refusals.{IsTakeError, event_refusal as refusal_of};
 
 use crate::cas_history::calls::call_words;
@@ -12,10 +15,16 @@ use crate::cas_history::history::History;
 use crate::cas_history::reason::event_refusal;
 use crate::cas_history::registers::Registers;
 use history_model::BuildError;
-use history_text::{AnyEvent, MAX_EVENTS};
+use history_text::{AnyEvent, MAX_EVENTS, OpWord};
+use parallel::both;
+use reg_arena::HashKey;
 use std::alloc::{AllocError, Global};
 use std::collections::BTreeMap;
 use std::marker::Model;
+use std::thread::Threads;
+
+/// The line of each event, and the word of each event's call, if it is one.
+type Lists = (Vec<u32>, Vec<Option<OpWord>>);
 
 /// Events that were taken in, one after another. Contracts see them as a list.
 #[derive(Drop)]
@@ -91,27 +100,85 @@ impl Events {
         self.events.get(place)
     }
 
-    /// The history of the events.
+    /// The history of the events, of which another thread lists the lines and the words. The key is that of
+    /// the names' hashes.
     ///
     /// The error says that memory ran out.
-    pub fn history(self, alloc: Global) -> Result<History, AllocError>
+    pub(crate) fn history<T: Threads + Sync>(
+        self,
+        rt: &T,
+        alloc: Global,
+        key: HashKey,
+    ) -> Result<History, AllocError>
         ensures { IfOk result (IsHistoryOf self) }
     {
-        let Registers {
-            naming,
-            operations: registers,
-            count: operations,
-        } = Registers::of(alloc, &self.events, &self.next)?;
-        let lines = self.events.iter().map(|event| event.line).collect(alloc)?;
-        let words = call_words(alloc, &self.events)?;
-        Ok(History {
-            names: naming.into_names(),
-            registers,
-            operations,
-            lines,
-            words,
-        })
+        let (registers, lists) = registers_and_lists(rt, alloc, &self.events, &self.next, key);
+        history_by(alloc, registers?, lists?)
     }
+
+    /// The same, by the calling thread alone.
+    pub fn history_alone(self, alloc: Global, key: HashKey) -> Result<History, AllocError>
+        ensures { IfOk result (IsHistoryOf self) }
+    {
+        let registers = Registers::of(alloc, &self.events, &self.next, key)?;
+        let lists = lines_and_words(alloc, &self.events)?;
+        history_by(alloc, registers, lists)
+    }
+}
+
+/// The registers of some events, and their lists, made by another thread.
+fn registers_and_lists<T: Threads + Sync>(
+    rt: &T,
+    alloc: Global,
+    events: &[AnyEvent],
+    next: &[Option<u32>],
+    key: HashKey,
+) -> (Result<Registers, AllocError>, Result<Lists, AllocError>)
+    requires few { length events.now ≤ MAX_EVENTS }
+    requires linked { AreLinked events.now next.now }
+    ensures registers { IfOk result.0 (IsHistoryBy events.now) }
+    ensures lists { IfOk result.1 (AreLinesAndWords events.now) }
+{
+    let (lists, registers) = both(
+        rt,
+        || -> Result<Lists, AllocError>
+            ensures { IfOk result (AreLinesAndWords events.entry.now) }
+        { lines_and_words(alloc, events) },
+        || -> Result<Registers, AllocError>
+            requires { (length events.now ≤ MAX_EVENTS) × AreLinked events.now next.now }
+            ensures { IfOk result (IsHistoryBy events.entry.now) }
+        { Registers::of(alloc, events, next, key) },
+    );
+    (registers, lists)
+}
+
+/// The line of each event, and the word of each call.
+fn lines_and_words(alloc: Global, events: &[AnyEvent]) -> Result<Lists, AllocError>
+    ensures { IfOk result (AreLinesAndWords events.now) }
+{
+    let lines = events.iter().map(|event| event.line).collect(alloc)?;
+    let words = call_words(alloc, events)?;
+    Ok((lines, words))
+}
+
+/// The history of the events that have these registers and lists.
+fn history_by(alloc: Global, registers: Registers, lists: Lists) -> Result<History, AllocError>
+    ensures { (events : List AnEvent) → IsHistoryBy events registers → AreLinesAndWords events lists
+        → IfOk result (IsHistoryOf events) }
+{
+    let Registers {
+        naming,
+        operations: registers,
+        count: operations,
+    } = registers;
+    let (lines, words) = lists;
+    Ok(History {
+        names: naming.into_names(alloc)?,
+        registers,
+        operations,
+        lines,
+        words,
+    })
 }
 
 /// Adds an event without a next one. If memory runs out, the lists stay as they are.

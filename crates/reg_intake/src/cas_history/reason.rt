@@ -36,6 +36,7 @@ pub(crate) fn event_refusal(
 }
 
 /// The register of the open call, and what it asks.
+#[inline(always)]
 fn open_asked(last: Option<&AnyEvent>) -> Option<(&Name, Asked)>
     ensures { option_map (λ call. record { register = call.0.now; asked = call.1 }) result
         ≡ table.open_asked any_form (option_map (λ e. e.now) last.entry) }

@@ -20,6 +20,7 @@ pub enum Asked {
 }
 
 /// What the call of an operation asks that is neither a read nor a write.
+#[inline(always)]
 fn other_asked(call: &OtherCall) -> Asked
     ensures { result ≡ defined.other_asked call.now }
 {
@@ -36,6 +37,7 @@ fn other_asked(call: &OtherCall) -> Asked
 }
 
 /// The register of a call, and what is asked of it.
+#[inline(always)]
 pub(crate) fn called(kind: &AnyKind) -> Option<(&Name, Asked)>
     ensures { option_map (λ call. record { register = call.0.now; asked = call.1 }) result
         ≡ defined.called_by kind.now }
@@ -52,6 +54,7 @@ pub(crate) fn called(kind: &AnyKind) -> Option<(&Name, Asked)>
 }
 
 /// What a reply says.
+#[inline(always)]
 pub(crate) fn replied(kind: &AnyKind) -> Option<&ReplyParts>
     ensures { option_map (λ parts. parts.now) result ≡ defined.replied_by kind.now }
 {
@@ -63,6 +66,7 @@ pub(crate) fn replied(kind: &AnyKind) -> Option<&ReplyParts>
 }
 
 /// What a reply tells of the value that its operation met.
+#[inline(always)]
 pub(crate) fn told(kind: &AnyKind) -> Told
     ensures { result ≡ defined.told_by kind.now }
 {
@@ -73,6 +77,7 @@ pub(crate) fn told(kind: &AnyKind) -> Told
 }
 
 /// What a fail says.
+#[inline(always)]
 pub(crate) fn failed(kind: &AnyKind) -> Option<&ReplyParts>
     ensures { option_map (λ parts. parts.now) result ≡ defined.failed_by kind.now }
 {
@@ -82,6 +87,7 @@ pub(crate) fn failed(kind: &AnyKind) -> Option<&ReplyParts>
     }
 }
 
+#[inline(always)]
 pub(crate) fn is_crash(kind: &AnyKind) -> bool
     ensures { result ≡ defined.is_crash kind.now }
 {

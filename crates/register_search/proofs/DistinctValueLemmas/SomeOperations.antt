@@ -4,7 +4,7 @@ use Rattle.std.proofs.Common.{◌≡◌, ◌&&◌, ℕ, Bool, true, false, Some,
 use Rattle.std.proofs.Common.{[], ◌∷◌, map, inl, inr, refl, sym, ap, subst, ◌∙◌}
 use Rattle.std.specs.Prelude.{IsSomeAnd}
 use Rattle.std.specs.List.{filter}
-use Rattle.std.proofs.lemmas.Bool.{false≢true, cases_Bool}
+use Rattle.std.proofs.lemmas.Bool.{and_parts, cases_Bool, false≢true}
 use Rattle.history_text.specs.declared.event.Val.{Val}
 use Rattle.history_model.proofs.Lists.{In-filter, filter-In, Before-filter, filter-Before, Before-first}
 use Rattle.history_model.specs.declared.act.Act.{Act}
@@ -39,10 +39,6 @@ filter-swap p q (x ∷ xs) = elim (cases_Bool (p x)) [
   ]
 ]
 
-both-first : (a b : Bool) → (a && b) ≡ true → a ≡ true
-both-first true b h = refl
-both-first false b h = h
-
 module _ (values : Val → Bool) (times : ℕ → Bool) where
   abbrev stays : Operation → Bool
   stays a = is_kept values times a.act a.call
@@ -53,7 +49,7 @@ module _ (values : Val → Bool) (times : ℕ → Bool) where
   met-kept (Read v) r m n y k q s = absurd s
   met-kept (Write u) (Read None) m n y k q s = absurd (false≢true k)
   met-kept (Write u) (Read (Some v)) m n y k q s =
-      subst (λ x. values x ≡ true) (sym (value-true u v s)) (both-first (values v) (times n) k)
+      subst (λ x. values x ≡ true) (sym (value-true u v s)) (and_parts (values v) (times n) k).0
   met-kept (Write u) (Write v) m n y k q s = absurd (false≢true q)
   met-kept (Write u) (Cas from to) m n y k q s = absurd (false≢true k)
   met-kept (Write u) (CasUnless unless to) m n y k q s = absurd (false≢true k)

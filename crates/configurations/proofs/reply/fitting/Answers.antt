@@ -1,6 +1,6 @@
 use Rattle.std.proofs.Common.{◌≡◌, ◌∙◌, ap, inl, inr, not, sym, true, ℕ}
+use Rattle.std.proofs.lemmas.Bool.{and_from, and_parts}
 use Rattle.slot_sets.specs.Sets.{has}
-use Rattle.configurations.proofs.Replying.{both, both_parts}
 use Rattle.configurations.proofs.Standing.{either_or}
 use Rattle.configurations.proofs.reply.fitting.Goals as goal
 
@@ -13,18 +13,18 @@ returns g c =
       | inr a ↦ c.requires.held.1 q a
     ] in
     let fits_here : (q : ℕ) → has c.minus.result q ≡ true → has c.common.result q ≡ true = λ q b.
-    (both_parts (has c.common.result q) (not (has c.args.left_out.now q)) (sym (c.minus.ensures q) ∙ b)).0 in
+    (and_parts (has c.common.result q) (not (has c.args.left_out.now q)) (sym (c.minus.ensures q) ∙ b)).0 in
     record {
       used = λ q b.
           used q
-          (both_parts (has c.union.result q) (has c.fitting.result q)
+          (and_parts (has c.union.result q) (has c.fitting.result q)
           (sym (c.common.ensures q) ∙ fits_here q b)).0;
       all = λ q b f stays.
           let there = c.union.ensures q ∙ b in
           let fits =
           c.common.ensures q
-          ∙ both (has c.union.result q) (has c.fitting.result q) there
+          ∙ and_from (has c.union.result q) (has c.fitting.result q) there
           (c.fitting.ensures q (used q there) ∙ f) in
           c.minus.ensures q
-          ∙ both (has c.common.result q) (not (has c.args.left_out.now q)) fits (ap not stays);
+          ∙ and_from (has c.common.result q) (not (has c.args.left_out.now q)) fits (ap not stays);
     }

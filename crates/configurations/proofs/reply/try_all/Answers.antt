@@ -1,6 +1,7 @@
 use Rattle.std.proofs.Common.{◌||◌, inl, inr, true, ◌≡◌}
+use Rattle.std.proofs.lemmas.Bool.{or_left, or_right}
 use Rattle.slot_sets.specs.Sets.{has}
-use Rattle.configurations.proofs.Replying.{call_member, gone_over, or_left, or_right}
+use Rattle.configurations.proofs.Replying.{call_member, gone_over}
 use Rattle.configurations.proofs.reply.try_all.Goals as goal
 
 pub returns-clause-goes : goal.returns-clause-goes

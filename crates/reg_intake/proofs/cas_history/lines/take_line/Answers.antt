@@ -1,22 +1,29 @@
--- A blank line is passed over, and of any other the event is taken in, or there is a reason why not.
-use Rattle.std.proofs.Common.{sym, ◌∙◌}
-use Rattle.reg_intake.proofs.CasHistoryLemmas.Taking.{event-refused, event-taken, no-event}
+-- The event is taken in, or there is a reason why not.
+use Rattle.std.proofs.Common.{◌∷◌, [], OnOk, subst, sym}
+use Rattle.std.specs.Prelude.{IfErr}
+use Rattle.history_model.specs.declared.refusal.BuildError.TheVariants.{Refused}
+use Rattle.history_model.specs.declared.refusal.Reason.TheVariants.{Faulty}
+use Rattle.reg_intake.specs.CasHistory.Refusals.{Line}
+use Rattle.reg_intake.specs.CasHistory.Taken.{Refuses, Takes}
+use Rattle.reg_intake.proofs.CasHistoryLemmas.Taking.{event-refuses, event-takes, fault-refuses}
 use Rattle.reg_intake.proofs.cas_history.lines.take_line.Goals as goal
 
 pub returns-in-Ok-clause-ok : goal.returns-in-Ok-clause-ok
 returns-in-Ok-clause-ok c =
-    event-taken c.args.line c.args.bytes.now (sym c.is_blank.ensures
-    ∙ c.if-is_blank.false) c.in-Ok.event c.in-Ok.ensures
-    c.args.events.now c.take.new.self c.take.result c.take.ensures.ok c.take.ensures.accepted
+    subst (λ (line : Line). OnOk c.take.result (Takes (line ∷ []) c.args.events.now c.take.new.self))
+    (sym c.in-Ok.is)
+    (event-takes c.args.events.now c.take.new.self c.in-Ok.event c.take.result c.take.ensures.ok
+    c.take.ensures.accepted)
 
 pub returns-in-Ok-clause-err : goal.returns-in-Ok-clause-err
 returns-in-Ok-clause-err c =
-    event-refused c.args.line c.args.bytes.now (sym c.is_blank.ensures
-    ∙ c.if-is_blank.false) c.in-Ok.event c.in-Ok.ensures
-    c.args.events.now c.take.result c.take.ensures.err
+    subst (λ (line : Line). IfErr c.take.result (Refuses (line ∷ []) c.args.events.now)) (sym c.in-Ok.is)
+    (event-refuses c.args.events.now c.in-Ok.event c.take.result c.take.ensures.err)
 
 pub returns-in-Err-clause-err : goal.returns-in-Err-clause-err
 returns-in-Err-clause-err c =
-    no-event c.args.line c.args.bytes.now (sym c.is_blank.ensures
-    ∙ c.if-is_blank.false) c.in-Err.error c.in-Err.ensures c.no_event.result c.no_event.ensures
-    c.args.events.now
+    subst (λ (line : Line). Refuses (line ∷ []) c.args.events.now (Refused (record {
+      line = c.in-Err.fault.line;
+      reason = Faulty c.in-Err.fault.kind;
+    }))) (sym c.in-Err.is)
+    (fault-refuses c.args.events.now c.in-Err.fault)

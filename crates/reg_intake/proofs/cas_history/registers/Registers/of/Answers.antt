@@ -5,15 +5,15 @@ use Rattle.std.proofs.Common.{◌∙◌, arith}
 use Rattle.std.proofs.lemmas.Option.{slice_get_read}
 use Rattle.history_text.specs.declared.event.AnyEvent.{AnyEvent}
 use Rattle.history_model.proofs.Accepted.{take-push}
-use Rattle.reg_intake.specs.CasHistory.Events.{called_by}
+use Rattle.reg_intake.specs.CasHistory.Events.{Called, called_by}
 use Rattle.reg_intake.specs.CasHistory.History.{any_calls, calls, number_of, register_names}
-use Rattle.reg_intake.specs.CasHistory.Kept.{event_at, names_with, operation_at}
+use Rattle.reg_intake.specs.CasHistory.Kept.{event_at, operation_at, with_called}
 use Rattle.reg_intake.specs.CasHistory.Listed.{listed}
 use Rattle.reg_intake.proofs.CasHistoryLemmas.Initials.{number-kept}
 use Rattle.reg_intake.proofs.CasHistoryLemmas.Linked.{link-read}
 use Rattle.reg_intake.proofs.CasHistoryLemmas.Listed.{at-most-one, calls-step, count-step, left_from}
 use Rattle.reg_intake.proofs.CasHistoryLemmas.Listed.{list-step}
-use Rattle.reg_intake.proofs.CasHistoryLemmas.Named.{length-called, names-step}
+use Rattle.reg_intake.proofs.CasHistoryLemmas.Named.{length-with, names-event}
 use Rattle.reg_intake.proofs.cas_history.registers.Registers.of.Goals as goal
 
 pub loop-place-preserved : goal.loop-place-preserved
@@ -32,8 +32,8 @@ loop-place-preserved c =
     sym (take-push events i event at) ∙ ap (λ m. take m events) one in
     let names : new.naming ≡ register_names (take (i + 1) events) =
     c.in_ok-add_event.ensures.names
-    ∙ (ap (λ names. names_with names event) so_far.names
-    ∙ (sym (names-step (take i events) event) ∙ ap register_names more)) in
+    ∙ (ap (λ names. with_called names event) so_far.names
+    ∙ (sym (names-event (take i events) event) ∙ ap register_names more)) in
     let all = register_names events in
     let number = ap (λ ns. number_of ns (called_by event.kind)) names ∙ number-kept events i event at in
     let adds = c.in_ok-add_event.ensures.adds all number in
@@ -54,7 +54,7 @@ loop-place-preserved c =
           omega (
             arith,
             ap length c.in_ok-add_event.ensures.names,
-            length-called old.naming (called_by event.kind),
+            length-with old.naming (option_map (λ (call : Called). call.register) (called_by event.kind)),
             so_far.few,
           );
       whole = c.in_ok-add_event.ensures.whole;
