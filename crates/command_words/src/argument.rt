@@ -7,7 +7,7 @@ use clap::builder::ValueParser;
 use clap::{Arg, ArgAction, value_parser};
 use std::alloc::Global;
 
-const FILE: &str = "The history, one JSON event a line; standard input where it is absent or -";
+const FILE: &str = "The history, one JSON event a line; standard input if it is absent or -";
 
 /// The one argument: the name of the file.
 pub fn file<'a>(alloc: Global) -> Arg<'a>

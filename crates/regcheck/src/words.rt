@@ -29,7 +29,7 @@ const STATUSES: &str = "The report goes to standard output. Exit status:
   1  it isn't
   2  the history is refused: it isn't well formed, or too long
   3  the command line is refused, or it asked for this help or the version
-  4  the history couldn't be read, the report couldn't be written, or memory or a thread was refused";
+  4  the history couldn't be read, the report couldn't be written, or there was no memory or no thread";
 
 /// What the words ask for.
 #[derive(Drop)]

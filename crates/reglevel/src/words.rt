@@ -33,7 +33,7 @@ const STATUSES: &str = "The report goes to standard output. Exit status:
   1  some register didn't, or it isn't
   2  the history is refused: it isn't well formed, or too long
   3  the command line is refused, or it asked for this help or the version
-  4  the history couldn't be read, the report couldn't be written, or memory or a thread was refused
+  4  the history couldn't be read, the report couldn't be written, or there was no memory or no thread
   6  causal is required, and wasn't decided: the history has too many sessions";
 
 /// What `--require` takes.

@@ -16,7 +16,7 @@ use search_report::{MAX_WORKERS, Settings};
 use std::alloc::{AllocError, Global};
 
 const ABOUT: &str =
-    "Decides whether each register of a recorded history of reads, writes and compare-and-swap is atomic (linearizable), as far as the bounds allow.";
+    "Decides whether each register of a recorded history of reads, writes, deletes, swaps and compare-and-swap is atomic (linearizable), as far as the bounds allow.";
 
 const VERSION: &str = "1.2.0 (rattle logic dac8208d650f15bf)";
 
@@ -33,7 +33,7 @@ const STATUSES: &str = "The report goes to standard output. Exit status:
   1  it isn't
   2  the history is refused: it isn't well formed, or too long
   3  the command line is refused, or it asked for this help or the version
-  4  the history couldn't be read, the report couldn't be written, or memory or a thread was refused
+  4  the history couldn't be read, the report couldn't be written, or there was no memory or no thread
   6  not decided within the bounds";
 
 /// What the words ask for.
