@@ -21,6 +21,7 @@
 #   minutes or more; needs cargo.
 # make bench-search-worst: run regsearch over histories that are made to be hard, and say where it takes more
 #   time or memory than is promised.
+# make bench-search-common: time regsearch beside regcheck, on a million events that repeat no value.
 # make bench-levels: time reglevel beside regcheck, on a million events of histories that are hard for it.
 # make install: all of the next two below PREFIX, within DESTDIR.
 # make install-programs: the programs, man pages, documents, examples, completions, and the packages for
@@ -68,8 +69,8 @@ DOCUMENTS = $(DESTDIR)$(PREFIX)/share/doc/regcheck
 SHARED = $(DESTDIR)$(PREFIX)/share/regcheck
 
 .PHONY: all help run try test edits costs fuzz picture-test bench bench-compare bench-search \
-	bench-search-worst bench-levels library embed-test bench-library install install-programs \
-	install-library dist dist-library wheel arm64-test stores clean
+	bench-search-worst bench-search-common bench-levels library embed-test bench-library install \
+	install-programs install-library dist dist-library wheel arm64-test stores clean
 
 all: $(PROGRAMS:%=bin/%)
 
@@ -179,6 +180,9 @@ bench-search: bin/regsearch
 
 bench-search-worst: bin/regsearch
 	bench/search_worst
+
+bench-search-common: bin/regsearch bin/regcheck bin/history_generator
+	bench/search_common
 
 bench-levels: bin/reglevel bin/regcheck
 	bench/levels
